@@ -83,9 +83,10 @@ def seconds(moment: str) -> int:
 class Host:
     """A host with a journal in a folder, on a port of its own."""
 
-    def __init__(self, program: str, folder: str, env: dict = None, prepare=None, sweep: int = 1):
+    def __init__(self, program: str, folder: str, env: dict = None, prepare=None, sweep: int = 1, begins: str = None):
         self.port = free_port()
         words = [program, "serve", "k.json", "--port", str(self.port), "--journal", JOURNAL, "--workers", "16", "--sweep", str(sweep)]
+        words += ["--from", begins] if begins else []
         self.process = subprocess.Popen(words, cwd=folder, env=env, preexec_fn=prepare, stdin=subprocess.DEVNULL, stdout=subprocess.DEVNULL,
                                         stderr=subprocess.PIPE)
 

@@ -27,8 +27,6 @@ mod keeper;
 mod receipt;
 mod state;
 mod tally;
-#[cfg(test)]
-mod tests;
 
 pub use clock::GatedClock;
 pub use crossing::crosses;

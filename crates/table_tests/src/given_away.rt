@@ -5,50 +5,26 @@ ghost use Rattle.claim_rule.specs.Out.{IsIdle};
 use crate::rows::{book, moment, span, two_desks};
 use booking_rows::{Aim, Turned, close_end, look_row, turn};
 use claim_rule::{Books, Desk};
+use expiry_sweeper::sweep;
 use history_model::phase::Phase;
 use rail_ids::{PlaceNo, RowNo};
-use seat_words::give_all;
 use std::process::Abort;
 use std::test::Fail;
 
-// Releases a prebooked booking, and gives its legs back.
-fn release(rt: &impl Abort, books: &Books, desk: &mut Desk, row: RowNo)
+// Ends a booking of leg 0 of place 0 a second after its limit, and books it again: the new booking.
+fn give_away(rt: &impl Abort, books: &Books, desk: &mut Desk) -> RowNo
     requires own { IsOf books.now desk.old }
     requires idle { IsIdle desk.old }
-    requires row { row.row < books.now.layout.rows }
-    ensures own { IsOf books.now desk.new }
-    ensures idle { IsIdle desk.new }
-    ensures number { desk.new.number ≡ desk.old.number }
-{
-    if look_row(books, desk, row).is_none() {
-        panic!(rt; "the row is sealed");
-    }
-    let aim = Aim::Release {
-        now: moment(rt, 800),
-    };
-    match turn(books, desk, row, Phase::Prebooked, aim) {
-        Turned::Ending(mut ending) => {
-            give_all(books, desk, &mut ending);
-            close_end(books, desk, ending);
-        }
-        Turned::Won | Turned::Lost { .. } => panic!(rt; "not released"),
-    }
-}
-
-// Releases a booking of leg 0 of place 0, and books it again: the new booking.
-fn give_away(rt: &impl Abort, books: &Books, desk: &mut Desk, row: RowNo) -> RowNo
-    requires own { IsOf books.now desk.old }
-    requires idle { IsIdle desk.old }
-    requires row { row.row < books.now.layout.rows }
     requires place { (0 < length books.now.layout.legs) × (2 ≤ slice_index books.now.layout.legs 0) }
     ensures own { IsOf books.now desk.new }
     ensures idle { IsIdle desk.new }
     ensures row { result.row < books.now.layout.rows }
     ensures number { desk.new.number ≡ desk.old.number }
 {
-    release(rt, books, desk, row);
+    let swept = sweep(books, desk, moment(rt, 901));
+    assert!(rt; swept.expired == 1);
     let leg = span(rt, 0, 1);
-    book(rt, books, desk, PlaceNo(0), leg, moment(rt, 900))
+    book(rt, books, desk, PlaceNo(0), leg, moment(rt, 2000))
 }
 
 // The first desk looks at a booking. The second gives its row away, and then the first confirms the booking: the phase
@@ -72,7 +48,7 @@ fn confirm_late(
     if look_row(books, first, row).is_none() {
         panic!(rt; "the row is sealed");
     }
-    let next = give_away(rt, books, second, row);
+    let next = give_away(rt, books, second);
     let aim = Aim::Confirm { now: moment(rt, 0) };
     match turn(books, first, row, Phase::Prebooked, aim) {
         Turned::Won => (None, next),
@@ -89,9 +65,9 @@ fn confirm_late(
 #[test]
 fn another_desk_starts_the_row_again(rt: HostRuntime) -> Result<(), Fail> {
     let (books, mut first, mut second) = two_desks(rt.alloc())?;
-    let limit = moment(&rt, 900);
+    let (limit, later) = (moment(&rt, 900), moment(&rt, 2000));
     let row = book(&rt, &books, &mut first, PlaceNo(0), span(&rt, 0, 1), limit);
-    let other = book(&rt, &books, &mut first, PlaceNo(0), span(&rt, 1, 2), limit);
+    let other = book(&rt, &books, &mut first, PlaceNo(0), span(&rt, 1, 2), later);
     assert!(rt; (row.row, other.row) == (0, 1));
     let (shown, next) = confirm_late(&rt, &books, &mut first, &mut second, row);
     assert!(rt; shown == Some(Phase::Free));

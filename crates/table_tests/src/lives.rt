@@ -2,16 +2,15 @@ ghost use Rattle.std.specs.Prelude.{◌≡◌, ◌<◌, length, slice_index, ◌
 ghost use Rattle.claim_rule.specs.Desks.{IsOf};
 ghost use Rattle.claim_rule.specs.Out.{HoldsNone, EndsNone, IsIdle, KeepsEndings};
 
-use booking_rows::{Detail, Sealed, Swept, look_row, note_detail, seal, start_hold};
+use booking_rows::{Detail, Sealed, look_row, note_detail, seal, start_hold};
 use claim_rule::{Books, Desk, start_books};
-use confirm_core::{Confirmed, Fulfilment, confirm, fulfil};
+use confirm_core::{Confirmed, confirm};
 use expiry_sweeper::sweep;
 use history_model::phase::{EndKind, Phase};
-use hold_core::{Added, abandon, add_places};
+use hold_core::{Added, add_places};
 use leg_masks::Span;
 use rail_ids::{PlaceNo, RetailerNo, RowNo};
 use rail_time::Moment;
-use refund_core::{Released, release};
 use seat_words::glance;
 use std::alloc::{AllocError, Global};
 use std::process::Abort;
@@ -50,98 +49,6 @@ fn prebooked(rt: &impl Abort, books: &Books, desk: &mut Desk, place: PlaceNo) ->
     };
     note_detail(books, desk, &mut hold, detail);
     seal(books, desk, hold, Sealed::Prebooked)
-}
-
-// Collects a booking's ticket.
-fn collects(rt: &impl Abort, books: &Books, desk: &mut Desk, row: RowNo, want: Fulfilment)
-    requires own { IsOf books.now desk.old }
-    ensures own { IsOf books.now desk.new }
-{
-    let found = fulfil(books, desk, row, RETAILER);
-    assert!(rt; found == want);
-}
-
-// Confirmations by their row, retailer and second: the first row's, and then the second one's and that of a row that
-// isn't there.
-fn confirms_each(rt: &impl Abort, books: &Books, desk: &mut Desk)
-    requires own { IsOf books.now desk.old }
-    ensures own { IsOf books.now desk.new }
-{
-    let limit = at(rt, 900);
-    for (row, retailer, seconds, want) in [
-        (0, RETAILER, 900, Confirmed::Done),
-        (1, RETAILER, 901, Confirmed::TooLate { limit }),
-        (1, RetailerNo(8), 0, Confirmed::Unknown),
-        (262_144, RETAILER, 0, Confirmed::Unknown),
-    ] {
-        let row = RowNo { row, generation: 0 };
-        let found = confirm(books, desk, row, retailer, at(rt, seconds));
-        assert!(rt; found == want);
-    }
-}
-
-#[test]
-fn confirmed_up_to_the_limit(rt: HostRuntime) -> Result<(), Fail> {
-    let alloc = rt.alloc();
-    let (books, mut desk) = start_books(alloc, [1, 1, 1].as_slice(), 4)?;
-    let first = prebooked(&rt, &books, &mut desk, PlaceNo(0));
-    let _second = prebooked(&rt, &books, &mut desk, PlaceNo(1));
-    let shown = Phase::Prebooked;
-    collects(
-        &rt,
-        &books,
-        &mut desk,
-        first,
-        Fulfilment::WrongState { shown },
-    );
-    confirms_each(&rt, &books, &mut desk);
-    collects(&rt, &books, &mut desk, first, Fulfilment::Done);
-    Ok(())
-}
-
-// Sweeps, and counts.
-fn sweeps(rt: &impl Abort, books: &Books, desk: &mut Desk, seconds: u64, expired: u32, waiting: u32)
-    requires own { IsOf books.now desk.old }
-    requires idle { IsIdle desk.old }
-    ensures own { IsOf books.now desk.new }
-    ensures idle { IsIdle desk.new }
-{
-    let swept = sweep(books, desk, at(rt, seconds));
-    let want = Swept {
-        expired,
-        lost: 0,
-        waiting,
-    };
-    assert!(rt; swept == want);
-}
-
-// Prebooks the first place, and sweeps at the limit and a second later.
-fn expires(rt: &impl Abort, books: &Books, desk: &mut Desk) -> RowNo
-    requires own { IsOf books.now desk.old }
-    requires idle { IsIdle desk.old }
-    requires place { 0 < length books.now.layout.legs }
-    requires legs { 1 ≤ slice_index books.now.layout.legs 0 }
-    ensures own { IsOf books.now desk.new }
-    ensures idle { IsIdle desk.new }
-{
-    let row = prebooked(rt, books, desk, PlaceNo(0));
-    sweeps(rt, books, desk, 900, 0, 1);
-    sweeps(rt, books, desk, 901, 1, 0);
-    row
-}
-
-#[test]
-fn expired_after_the_limit(rt: HostRuntime) -> Result<(), Fail> {
-    let alloc = rt.alloc();
-    let (books, mut desk) = start_books(alloc, [1, 1].as_slice(), 4)?;
-    let first = expires(&rt, &books, &mut desk);
-    let shown = Phase::Ended(EndKind::Expire);
-    let late = confirm(&books, &mut desk, first, RETAILER, at(&rt, 0));
-    assert!(rt; late == Confirmed::WrongState { shown });
-    let second = prebooked(&rt, &books, &mut desk, PlaceNo(0));
-    let free = release(&books, &mut desk, second, RETAILER, at(&rt, 5000));
-    assert!(rt; free == Released::Done);
-    Ok(())
 }
 
 // New books of a thousand places of one leg, and as many rows.
@@ -292,30 +199,4 @@ fn count_confirmed(rt: &impl Abort, books: &Books, desk: &mut Desk) -> u32
         }
     }
     confirmed
-}
-
-// Finds no free row among a thousand, and knows them all to be taken.
-fn finds_none(rt: &impl Abort, books: &Books, desk: &mut Desk)
-    requires own { IsOf books.now desk.old }
-    requires none { HoldsNone desk.old }
-    ensures own { IsOf books.now desk.new }
-    ensures none { HoldsNone desk.new }
-{
-    if let Some(hold) = start_hold(books, desk) {
-        abandon(books, desk, hold);
-        panic!(rt; "all rows are taken");
-    }
-    assert!(rt; desk.past() == 1000);
-}
-
-/// A desk that knows of no row finds none of a thousand free, and remembers it.
-#[test]
-fn searches_each_row_once(rt: HostRuntime) -> Result<(), Fail> {
-    let (books, mut desk) = thousand(rt.alloc())?;
-    let mut late = books.part(&mut desk);
-    book_all(&rt, &books, &mut desk);
-    assert!(rt; late.past() == 0);
-    finds_none(&rt, &books, &mut late);
-    finds_none(&rt, &books, &mut late);
-    Ok(())
 }

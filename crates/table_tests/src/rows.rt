@@ -133,47 +133,6 @@ pub(crate) fn moment(rt: &impl Abort, seconds: u64) -> Moment
     }
 }
 
-/// Each of two desks books, and neither wins a row where none is free. After they met, the first sees the second's
-/// booking, and of two turns from its phase the first decides.
-#[test]
-fn two_desks_by_part(rt: HostRuntime) -> Result<(), Fail> {
-    let front = span(&rt, 0, 1);
-    let back = span(&rt, 1, 2);
-    let (books, mut first, mut second) = two_desks(rt.alloc())?;
-    let limit = moment(&rt, 900);
-    let one = book(&rt, &books, &mut first, PlaceNo(0), front, limit);
-    let two = book(&rt, &books, &mut second, PlaceNo(0), back, limit);
-    assert!(rt;
-        (one, two)
-            == (
-                RowNo {
-                    row: 0,
-                    generation: 0
-                },
-                RowNo {
-                    row: 1,
-                    generation: 0
-                }
-            )
-    );
-    if let Some(hold) = start_hold(&books, &mut first) {
-        keep_row(&mut first, hold);
-        panic!(rt; "both rows are taken");
-    }
-    books.meet(&mut first, second);
-    let Some(view) = look_row(&books, &mut first, two) else {
-        panic!(rt; "row 1 is sealed");
-    };
-    assert!(rt; (view.phase, view.retailer, view.total) == (Phase::Prebooked, RETAILER, 1900));
-    assert!(rt; (view.limit.seconds(), view.ended) == (900, None));
-    assert!(rt; view.items.len() == 1);
-    let item = view.items[0];
-    assert!(rt; (item.place(), item.span().from(), item.span().to()) == (0, 1, 2));
-    let wall = books.finish(first);
-    assert!(rt; wall.place_word(PlaceNo(0), 0) == Some(3));
-    Ok(())
-}
-
 // Lets a desk learn what another one has seen.
 fn tell_on(books: &Books, from: &mut Desk, to: &mut Desk)
     requires own { IsOf books.now from.old }
@@ -184,19 +143,6 @@ fn tell_on(books: &Books, from: &mut Desk, to: &mut Desk)
 {
     let told = books.tell(from);
     books.learn(to, told);
-}
-
-/// A desk that was told what another one has seen finds the other's booking, and both go on.
-#[test]
-fn what_was_told_is_found(rt: HostRuntime) -> Result<(), Fail> {
-    let (books, mut first, mut second) = two_desks(rt.alloc())?;
-    let limit = moment(&rt, 900);
-    let row = book(&rt, &books, &mut first, PlaceNo(0), span(&rt, 0, 2), limit);
-    tell_on(&books, &mut first, &mut second);
-    assert!(rt; confirm_first(&rt, &books, &mut second, row) == None);
-    tell_on(&books, &mut second, &mut first);
-    assert!(rt; confirm_first(&rt, &books, &mut first, row) == Some(Phase::Confirmed));
-    Ok(())
 }
 
 // Looks at a row and turns it from prebooked to confirmed, at the first of all moments: the phase that it showed where
@@ -220,12 +166,14 @@ fn confirm_first(rt: &impl Abort, books: &Books, desk: &mut Desk, row: RowNo) ->
     }
 }
 
-/// Of two turns from one phase the first decides.
+/// A desk that was told what another one has seen finds the other's booking. Of two turns from one phase the first
+/// decides.
 #[test]
-fn first_turn_decides(rt: HostRuntime) -> Result<(), Fail> {
+fn what_was_told_is_found(rt: HostRuntime) -> Result<(), Fail> {
     let (books, mut first, mut second) = two_desks(rt.alloc())?;
     let limit = moment(&rt, 900);
     let row = book(&rt, &books, &mut first, PlaceNo(0), span(&rt, 0, 2), limit);
+    tell_on(&books, &mut first, &mut second);
     assert!(rt; confirm_first(&rt, &books, &mut second, row) == None);
     assert!(rt; confirm_first(&rt, &books, &mut first, row) == Some(Phase::Confirmed));
     Ok(())
@@ -333,7 +281,7 @@ fn undone_beside_another_desk(rt: HostRuntime) -> Result<(), Fail> {
     Ok(())
 }
 
-/// Two desks hold legs of one place, and both seal.
+/// Two desks hold legs of one place, and both seal. After they met, the first sees the second's booking.
 #[test]
 fn two_desks_on_one_place(rt: HostRuntime) -> Result<(), Fail> {
     let (books, mut first, mut second) = two_desks(rt.alloc())?;
@@ -342,8 +290,16 @@ fn two_desks_on_one_place(rt: HostRuntime) -> Result<(), Fail> {
     contend(&rt, &books, &mut first, &mut one, &mut second, &mut two);
     let limit = moment(&rt, 900);
     close_hold(&books, &mut first, one, limit);
-    close_hold(&books, &mut second, two, limit);
+    let row = close_hold(&books, &mut second, two, limit);
     books.meet(&mut first, second);
+    let Some(view) = look_row(&books, &mut first, row) else {
+        panic!(rt; "the other booking is sealed");
+    };
+    assert!(rt; (view.phase, view.retailer, view.total) == (Phase::Prebooked, RETAILER, 1900));
+    assert!(rt; (view.limit.seconds(), view.ended) == (900, None));
+    assert!(rt; view.items.len() == 1);
+    let item = view.items[0];
+    assert!(rt; (item.place(), item.span().from(), item.span().to()) == (0, 1, 2));
     let wall = books.finish(first);
     assert!(rt; wall.place_word(PlaceNo(0), 0) == Some(3));
     assert!(rt; wall.row_word(0, 0) == Some(2));
