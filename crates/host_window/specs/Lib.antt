@@ -4,6 +4,7 @@ pub mod Runs
 pub mod Labels
 pub mod Pages
 pub mod Showing
+pub mod Callers
 pub mod Texts
 pub mod Routes
 pub mod Metrics
