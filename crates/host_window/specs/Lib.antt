@@ -1,6 +1,7 @@
 pub mod Counting
 pub mod Counted
 pub mod Runs
+pub mod Listed
 pub mod Labels
 pub mod Pages
 pub mod Showing
