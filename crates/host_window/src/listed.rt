@@ -1,7 +1,7 @@
 // Answers that are known before.
-ghost use Rattle.std.specs.Prelude.{◌≡◌, ◌++◌};
+ghost use Rattle.std.specs.Prelude.{◌≡◌, ◌≤◌, ◌++◌, length};
 ghost use Rattle.session_loop.specs.Answered.{answer_bytes};
-ghost use Rattle.host_window.specs.Listed.{IsFirst, reply_text, text_at};
+ghost use Rattle.host_window.specs.Listed.{text_at};
 
 use arrayvec::ArrayVec;
 use http_wire::{Answer, Body, Intake, Request, WireFault, append};

@@ -1,5 +1,5 @@
 //! A run in memory, and what is counted in it.
-ghost use Rattle.std.specs.Prelude.{◌≡◌, ◌<◌, ◌+◌, ◌×◌, ◌^◌, ℕ, List, Some, [], IfOk, length};
+ghost use Rattle.std.specs.Prelude.{◌≡◌, ◌<◌, ◌+◌, ◌^◌, ℕ, List, Some, [], IfOk, length};
 ghost use Rattle.std.specs.List.{All, sum};
 ghost use Rattle.http_wire.specs.Requests.{RequestText};
 ghost use Rattle.http_wire.specs.declared.request.WireFault.{WireFault};
@@ -26,7 +26,7 @@ pub(crate) trait Script<R> {
     ghost given: { R → ℕ };
 }
 
-impl<R> Script<R> for Brand {
+impl Script<Listed<'_>> for Brand {
     ghost use Rattle.std.specs.Prelude.{⊤};
 
     ghost follows = { λ _. ⊤ };
@@ -95,7 +95,7 @@ pub(crate) fn count_session<'c, S: Source, K: Sink, R: Responder, P: Script<R>>(
     requires tells { K.told sink.sink ≡ Some [] }
     ensures counted { AreCounted P.text (K.told result.sink) sink.entry.counts result.counts }
 {
-    let mut outlet = ScriptOutlet::<'c, K, R, P> {
+    let mut outlet: ScriptOutlet<'c, K, R, P> = ScriptOutlet {
         sink,
         script: PhantomData,
     };
