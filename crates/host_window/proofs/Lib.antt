@@ -1,4 +1,4 @@
 pub mod Joining
 pub mod Runs
 pub mod Sums
-pub mod Listed
+pub mod ReplyTexts

@@ -120,12 +120,7 @@ pub fn count_replies<'c, S: Source, K: Sink + Drop>(
     let mut intake = Intake::start(alloc)?;
     let counting = CountingSink::plain(alloc, sink)?;
     let mut responder = Listed::of(replies);
-    Ok(count_session::<S, K, Listed<'_>, Brand>(
-        &mut intake,
-        source,
-        counting,
-        &mut responder,
-    ))
+    Ok(count_session::<S, K, Listed<'_>, Brand>(&mut intake, source, counting, &mut responder))
 }
 
 /// The counts by status, of which there are sixteen, add up to what they were before and the answers that have begun,

@@ -21,8 +21,7 @@ pub loop-preserved : goal.loop-preserved
 loop-preserved g c =
     let did = calls g.W.Callers.hands g.W.Callers.ends g.V.Server.serves g.V.Server.over in
     let more : suc c.loop.counter ≡ c.loop.counter + 1 = omega arith in
-    subst (λ (n : ℕ). ServesInTurn did n (counter c.args.callers.now c.args.server.now) (counter c.next_caller.new.self c.serve.new.self)) more
-    (
+    subst (λ (n : ℕ). ServesInTurn did n (counter c.args.callers.now c.args.server.now) (counter c.next_caller.new.self c.serve.new.self)) more (
       counter c.loop.callers c.loop.server,
       c.in-Some.input,
       c.in-Some.output,
