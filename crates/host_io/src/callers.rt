@@ -1,5 +1,5 @@
 // A port whose callers look through the operator's window.
-ghost use Rattle.std.specs.Prelude.{is_some};
+ghost use Rattle.std.specs.Prelude.{false, true};
 ghost use Rattle.host_io.specs.Doors.{AsksFor};
 
 use crate::door::Door;
@@ -15,9 +15,11 @@ impl<D: Door + Drop, T: Watch + Copy + Drop, K: Keeper + Copy + Drop> Callers
 
     type Output = PortSink<D::Wire, K>;
 
-    fn next_caller(&mut self) -> Option<(Self::Input, Self::Output)>
-        ensures asks { AsksFor (D.calls self.old.door) (D.calls self.new.door) (is_some result) }
-    {
+    ghost hands = { λ before input output after. AsksFor (D.calls before.door) (D.calls after.door) true };
+
+    ghost ends = { λ before after. AsksFor (D.calls before.door) (D.calls after.door) false };
+
+    fn next_caller(&mut self) -> Option<(Self::Input, Self::Output)> {
         let (input, output) = self.next_stream()?;
         Some((ReaderSource::new(input), output))
     }

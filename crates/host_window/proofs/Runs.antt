@@ -272,48 +272,50 @@ module _ (text : ℕ → List ℕ) where
   took_both v w pieces (FailedBoth n) rest pushes noted = let short = pushes.0 in took v w pieces n (omega (arith, short)) rest pushes.1 noted
 
   -- what a responder with this script answers
-  module _ {R : Type 0} (given : R → ℕ) (answers : Answering R) (refuses : Refusing R)
-      (scripted : (before : R) (request : RequestText) (reply : List ℕ) (after : R) → given before < 65536 → answers before request reply after
-      → (reply ≡ text (given before)) × (given after ≡ given before + 1))
-      (declined : (now : R) (fault : WireFault) (reply : List ℕ) → refuses now fault reply → reply ≡ text (given now)) where
-    chained : (requests : List RequestText) (before after : R) (replies : List ℕ) → given before + length requests < 65536
+  module _ {R : Type 0} (Follows : R → Type 0) (given : R → ℕ) (answers : Answering R) (refuses : Refusing R)
+      (scripted : (before : R) (request : RequestText) (reply : List ℕ) (after : R) → Follows before → given before < 65536
+      → answers before request reply after → (reply ≡ text (given before)) × (given after ≡ given before + 1) × Follows after)
+      (declined : (now : R) (fault : WireFault) (reply : List ℕ) → Follows now → refuses now fault reply → reply ≡ text (given now)) where
+    chained : (requests : List RequestText) (before after : R) (replies : List ℕ) → Follows before → given before + length requests < 65536
         → Chain answers before requests replies after
-        → (first_of text (given before) ++ replies ≡ first_of text (given after)) × (given after ≡ given before + length requests)
-    chained [] before after replies few (none, same) =
+        → (first_of text (given before) ++ replies ≡ first_of text (given after)) × (given after ≡ given before + length requests) × Follows after
+    chained [] before after replies follows few (none, same) =
         let given_same : given after ≡ given before = ap given same in (
           ap (λ (l : List ℕ). first_of text (given before) ++ l) none ∙ append-nil (first_of text (given before))
               ∙ ap (λ (n : ℕ). first_of text n) (sym given_same),
           omega (arith, given_same),
+          subst Follows (sym same) follows,
         )
-    chained (request ∷ requests) before after replies few (next, answer, more, is, parts, others) =
-        let so = scripted before request answer next (omega (arith, few)) is in
+    chained (request ∷ requests) before after replies follows few (next, answer, more, is, parts, others) =
+        let so = scripted before request answer next follows (omega (arith, few)) is in
         let one_more : given next ≡ suc (given before) = omega (arith, so.1) in
-        let later = chained requests next after more (omega (arith, few, one_more)) others in (
+        let later = chained requests next after more so.2 (omega (arith, few, one_more)) others in (
           ap (λ (l : List ℕ). first_of text (given before) ++ l) parts ∙ sym (append_assoc (first_of text (given before)) answer more)
               ∙ ap (λ (l : List ℕ). (first_of text (given before) ++ l) ++ more) so.0
               ∙ ap (λ (n : ℕ). first_of text n ++ more) (sym one_more) ∙ later.0,
           omega (arith, later.1, one_more),
+          later.2,
         )
 
-    last_text : (number : ℕ) (tail answer : List ℕ) (mid after : R) → given mid < 65536
+    last_text : (number : ℕ) (tail answer : List ℕ) (mid after : R) → Follows mid → given mid < 65536
         → ((request : RequestText) × (left : List ℕ) × IsRequest number tail request left × answers mid request answer after)
         ⊎ ((fault : WireFault) × IsFault fault tail × refuses mid fault answer × (after ≡ mid)) → answer ≡ text (given mid)
-    last_text number tail answer mid after few (inl (request, left, reads, is)) = (scripted mid request answer after few is).0
-    last_text number tail answer mid after few (inr (fault, stands, is, same)) = declined mid fault answer is
+    last_text number tail answer mid after follows few (inl (request, left, reads, is)) = (scripted mid request answer after follows few is).0
+    last_text number tail answer mid after follows few (inr (fault, stands, is, same)) = declined mid fault answer follows is
 
     -- What may be handed over at a moment of its session is the rest of its next answer.
     pub rest_of : {K : Type 0} (awaits : Awaiting R) (shows : Showing K) (before : R) (source : Option (List ℕ)) (sink now : K) (piece : List ℕ)
-        → given before ≡ 0 → shows.told sink ≡ Some [] → MayWrite answers refuses awaits shows before source sink now piece
+        → Follows before → given before ≡ 0 → shows.told sink ≡ Some [] → MayWrite answers refuses awaits shows before source sink now piece
         → IsRest text (shows.told now) piece
-    rest_of {K} awaits shows before source sink now piece first empty m =
+    rest_of {K} awaits shows before source sink now piece follows first empty m =
         let n = given m.next.mid in
         let fits = few_open m.next.requests 1 _ m.next.tail (omega arith) m.next.begins m.next.open' in
-        let chain = chained m.next.requests before m.next.mid m.next.replies (omega (arith, fits, first)) m.next.chain in
+        let chain = chained m.next.requests before m.next.mid m.next.replies follows (omega (arith, fits, first)) m.next.chain in
         let whole : m.next.replies ≡ first_of text n = ap (λ (k : ℕ). first_of text k ++ m.next.replies) (sym first) ∙ chain.0 in (
           n,
           m.next.part,
           m.sent ∙ ap (λ (o : Option (List ℕ)). with_end o m.written) empty
               ∙ ap (λ (l : List ℕ). Some l) (m.next.is ∙ ap (λ (l : List ℕ). l ++ m.next.part) whole),
-          sym (last_text _ m.next.tail m.next.answer m.next.mid m.after (omega (arith, chain.1, fits, first)) m.next.last) ∙ m.next.cut
+          sym (last_text _ m.next.tail m.next.answer m.next.mid m.after chain.2 (omega (arith, chain.1, fits, first)) m.next.last) ∙ m.next.cut
               ∙ ap (λ (l : List ℕ). m.next.part ++ l) m.rest,
         )

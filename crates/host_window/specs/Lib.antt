@@ -1,9 +1,11 @@
 pub mod Counting
 pub mod Counted
 pub mod Runs
+pub mod Listed
 pub mod Labels
 pub mod Pages
 pub mod Showing
+pub mod Callers
 pub mod Texts
 pub mod Routes
 pub mod Metrics

@@ -1,5 +1,6 @@
 -- What is counted in a run whose answers are known before: the texts of the first answer, the second, and so on.
-use Rattle.std.specs.Prelude.{◌≡◌, ◌<◌, ℕ, zero, suc, List, [], ◌++◌, length, Option, Some}
+use Rattle.std.specs.Prelude.{◌≡◌, ◌<◌, ◌^◌, ℕ, zero, suc, List, [], ◌++◌, length, replicate, Option, Some}
+use Rattle.std.specs.List.{sum}
 use Rattle.rail_io.specs.Told.{with_end}
 use Rattle.host_window.specs.Counted.{IsPlain, NotesIn, label_in, raise}
 use Rattle.host_window.specs.declared.noted.Noted.{Noted}
@@ -31,6 +32,13 @@ AreCounted text told before after =
     (counts : List ℕ) → IsPlain before counts
     → (begun : ℕ) × (bytes : List ℕ) × (told ≡ Some bytes) × HaveBegun text begun bytes
     × IsPlain after (raised text begun counts)
+
+-- Of these answers a sink tells the first ones, and maybe a part of one more. Each is counted once, by its label, and
+-- the counts add up to their number, while that is a number of 64 bits.
+abbrev pub AddUp : (ℕ → List ℕ) → Option (List ℕ) → Noted → Type 0
+AddUp text told noted =
+    (begun : ℕ) × (bytes : List ℕ) × (counts : List ℕ) × (told ≡ Some bytes) × HaveBegun text begun bytes
+    × IsPlain noted counts × (counts ≡ raised text begun (replicate 16 0)) × (begun < 2 ^ 64 → sum counts ≡ begun)
 
 -- what a counting sink tells, and where and how it counts
 pub record CountingView : Type 0 where

@@ -30,3 +30,13 @@ IsShown {R} old new t NoMemory = (t.left ≡ t.came) × (t.after ≡ t.before)
 IsShown {R} old new t end =
     (taken : List ℕ) × (written : List ℕ) × (t.came ≡ with_front taken t.left) × (t.after ≡ with_end t.before written)
     × IsEnd Responds Refuses old new taken t.left written end
+
+-- The pages were shown so to a caller whose stream is this: as it was when it was handed out, and as it was when it was
+-- let go.
+abbrev pub IsShownTo : {R S K : Type 0} → (S → Option (List ℕ)) → (K → Option (List ℕ)) → Pages R → S → K → Pages R
+    → Type 0
+IsShownTo {R} {S} {K} came sent before input output after =
+    (source : S) × (sink : K) × (end : ConnEnd)
+    × IsShown before after
+    (record { came = came input; left = came source; before = sent output; after = sent sink })
+    end

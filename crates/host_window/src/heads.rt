@@ -1,8 +1,11 @@
 //! What is read of an answer that is written.
-ghost use Rattle.std.specs.Prelude.{◌≡◌, ◌++◌, slice_index};
+ghost use Rattle.std.specs.Prelude.{◌≡◌, ◌<◌, ◌+◌, ◌*◌, ◌++◌, slice_index};
 ghost use Rattle.host_window.specs.Counted.{label_in, number_in};
 
 use crate::labels::number_of_status;
+
+/// How many values a byte has.
+const BYTE: u32 = 256;
 
 // The number of three digits, or 0.
 fn number_of(hundreds: u8, tens: u8, ones: u8) -> u16
@@ -40,17 +43,31 @@ fn label_by_digits(first: &[u8], second: &[u8]) -> usize
     number_of_status(number_of(hundreds, tens, ones))
 }
 
-/// The number of the label of an answer that begins with these two pieces. Most are 200 and 201, so that these are
+// Four bytes as one number, so that they are compared at once.
+#[inline(always)]
+fn joined(ones: u8, twos: u8, threes: u8, fours: u8) -> u32
+    ensures joined { result ≡ ones + twos * 256 + threes * 65536 + fours * 16777216 }
+    ensures bytes { (ones < 256) × (twos < 256) × (threes < 256) × (fours < 256) }
+{
+    u32::from(ones)
+        + u32::from(twos) * BYTE
+        + u32::from(threes) * (BYTE * BYTE)
+        + u32::from(fours) * (BYTE * BYTE * BYTE)
+}
+
+/// The number of the label of an answer that begins with these two pieces. Most are 201 and 200, so that these are
 /// looked for first.
 #[inline(always)]
 pub(crate) fn label_of(first: &[u8], second: &[u8]) -> usize
     ensures { result ≡ label_in (first.now ++ second.now) }
 {
-    if first.len() >= 12 && first[9] == b'2' && first[10] == b'0' {
-        match first[11] {
-            b'0' => return 0,
-            b'1' => return 1,
-            _ => {}
+    if first.len() >= 12 {
+        let status = joined(first[8], first[9], first[10], first[11]);
+        if status == joined(b' ', b'2', b'0', b'1') {
+            return 1;
+        }
+        if status == joined(b' ', b'2', b'0', b'0') {
+            return 0;
         }
     }
     label_by_digits(first, second)

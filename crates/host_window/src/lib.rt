@@ -5,10 +5,10 @@
 //! clock, and counts requests and times. They are to raise the numbers of `Counters`, which all threads share and which
 //! are added up where they are asked for. What these shared numbers are, no clause says.
 //!
-//! `show_all` is to serve those who look, one after the other, by `show_pages`; of it no clause speaks. Of a connection
-//! that `show_pages` serves, each request that is taken is answered once, in order, up to a write fault, by its method
-//! and path. The answer says how some host does, has some numbers, or is 500. Or there is no memory, and nothing is
-//! taken or written. `window_page` writes the counts for Prometheus, in its text format of version 0.0.4. Its contract
+//! `show_all` serves each caller that it is handed, once and in order, until there will be none any more or the host is
+//! over (`ServesAll`). `Pages` serve one by `show_pages`: each request that is taken is answered once, in order, up to a
+//! write fault, by its method and path. The answer says how some host does, has some numbers, or is 500. Or there is no
+//! memory, and nothing is taken or written. `window_page` writes the counts for Prometheus, in its text format of version 0.0.4. Its contract
 //! says every byte: `specs/Texts` has the form of a family of numbers, `specs/Metrics` the families, and `specs/Routes`
 //! those of routes.
 //!
@@ -35,6 +35,7 @@ mod found;
 mod heads;
 mod journal;
 mod labels;
+mod listed;
 mod metrics;
 mod noted;
 mod pages;
@@ -50,16 +51,17 @@ mod ticker;
 mod turn;
 mod words;
 
-pub use callers::{Callers, show_all, show_pages};
+pub use callers::{Callers, Server, show_all, show_pages};
 pub use clock::CountingClock;
 pub use counters::{Counters, Health, StreamCounts};
 pub use crossing::crosses;
 pub use findings::Findings;
 pub use found::{Finds, Found};
 pub use journal::CountingJournal;
+pub use listed::Reply;
 pub use pages::Pages;
 pub use routes::RouteCounts;
-pub use run::{Script, ScriptOutlet, count_session, counts_add_up};
+pub use run::{count_replies, counts_add_up};
 pub use sink::CountingSink;
 pub use source::CountingSource;
 pub use ticker::CountingTicker;

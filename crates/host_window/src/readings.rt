@@ -10,6 +10,18 @@ use std::time::Duration;
 pub(crate) fn nanoseconds_since(before: Duration, now: Duration) -> u64
     ensures { result ≡ nanoseconds_by before now }
 {
+    if now.as_secs() == before.as_secs() {
+        return u64::from(now.subsec_nanos().saturating_sub(before.subsec_nanos()));
+    }
+    nanoseconds_over(before, now)
+}
+
+// The same of any two readings.
+#[cold]
+#[inline(never)]
+fn nanoseconds_over(before: Duration, now: Duration) -> u64
+    ensures { result ≡ nanoseconds_by before now }
+{
     u64::try_from(now.saturating_sub(before).as_nanos()).unwrap_or(u64::MAX)
 }
 

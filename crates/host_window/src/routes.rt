@@ -103,10 +103,9 @@ fn bucket_of(nanoseconds: u64) -> usize
     }
 }
 
-/// What is counted of the requests of one route.
+/// What is counted of the requests of one route that were carried out.
 #[derive(Drop)]
 struct RouteRow {
-    arrived: Tally,
     spent: Tally,
     /// The times within each bound and not within the one before.
     within: [Tally; 15],
@@ -116,7 +115,6 @@ impl RouteRow {
     // Nothing counted yet.
     fn new() -> RouteRow {
         RouteRow {
-            arrived: Tally::new(),
             spent: Tally::new(),
             within: array::from_fn(|_| Tally::new()),
         }
@@ -127,6 +125,7 @@ impl RouteRow {
 #[derive(Drop)]
 pub struct RouteCounts {
     rows: [RouteRow; 13],
+    arrived: [Tally; 13],
 }
 
 impl RouteCounts {
@@ -134,13 +133,14 @@ impl RouteCounts {
     pub(crate) fn new() -> RouteCounts {
         RouteCounts {
             rows: array::from_fn(|_| RouteRow::new()),
+            arrived: array::from_fn(|_| Tally::new()),
         }
     }
 
     /// A request came.
     #[inline(always)]
     pub(crate) fn note_arrival(&self, route: RouteName) {
-        self.rows[number_of(route)].arrived.add(1);
+        self.arrived[number_of(route)].add(1);
     }
 
     /// A request was carried out in this time.
@@ -153,11 +153,11 @@ impl RouteCounts {
 
     // The count that is meant, of the route of this number.
     fn read(&self, pick: Picks, number: usize) -> u64 {
-        let Some(row) = self.rows.get(number) else {
+        let (Some(row), Some(arrived)) = (self.rows.get(number), self.arrived.get(number)) else {
             return 0;
         };
         match pick {
-            Picks::Arrived => row.arrived.read(),
+            Picks::Arrived => arrived.read(),
             Picks::Spent => row.spent.read(),
             Picks::Within(bucket) => match row.within.get(bucket) {
                 Some(count) => count.read(),

@@ -1,49 +1,46 @@
 //! A run in memory, and what is counted in it.
-ghost use Rattle.std.specs.Prelude.{◌≡◌, ◌<◌, ◌+◌, ◌^◌, ℕ, List, Some, [], length};
-ghost use Rattle.std.specs.List.{sum};
+ghost use Rattle.std.specs.Prelude.{◌≡◌, ◌<◌, ◌+◌, ◌^◌, ℕ, List, Some, [], IfOk, length};
+ghost use Rattle.std.specs.List.{All, sum};
 ghost use Rattle.http_wire.specs.Requests.{RequestText};
 ghost use Rattle.http_wire.specs.declared.request.WireFault.{WireFault};
-ghost use Rattle.host_window.specs.Runs.{AreCounted, IsRest, TookOf, raised};
+ghost use Rattle.host_window.specs.Listed.{text_at};
+ghost use Rattle.host_window.specs.Runs.{AddUp, AreCounted, IsRest, TookOf, raised};
 
+use crate::listed::{Listed, Reply};
 use crate::sink::CountingSink;
 use http_wire::Intake;
 use rail_io::{Pushed, PushedBoth, Sink, Source};
-use session_loop::{ConnEnd, Outlet, Responder, run_permitted};
-use std::marker::PhantomData;
+use session_loop::{Outlet, Responder, run_permitted};
+use std::alloc::{AllocError, Global};
+use std::marker::{Brand, PhantomData};
 
-/// The answers of a responder, where they are known before.
-pub trait Script<R> {
-    /// The text of its first answer, its second, and so on, counted from 0.
+/// The answers of a responder, which follow from their number alone. The proof of a call picks them.
+pub(crate) trait Script<R> {
+    /// What responders are meant.
+    ghost follows: { R → Type 0 };
+
+    /// The text of such a responder's first answer, its second, and so on, counted from 0.
     ghost text: { ℕ → List ℕ };
 
     /// How many it has given.
     ghost given: { R → ℕ };
 }
 
-/// A counting sink that may be handed only the rest of the next answer.
-#[derive(Drop)]
-pub struct ScriptOutlet<'c, K, R, P> {
-    sink: CountingSink<'c, K>,
-    script: PhantomData<(R, P)>,
+impl Script<Listed<'_>> for Brand {
+    ghost use Rattle.std.specs.Prelude.{⊤};
+
+    ghost follows = { λ _. ⊤ };
+
+    ghost text = { λ _. [] };
+
+    ghost given = { λ _. 0 };
 }
 
-impl<'c, K: Sink, R, P: Script<R>> ScriptOutlet<'c, K, R, P> {
-    /// Before this sink.
-    pub fn of(sink: CountingSink<'c, K>) -> Self
-        ensures { result.sink ≡ sink.entry }
-    {
-        ScriptOutlet {
-            sink,
-            script: PhantomData,
-        }
-    }
-
-    /// The sink.
-    pub fn sink(&self) -> &CountingSink<'c, K>
-        ensures { result.now ≡ self.now.sink }
-    {
-        &self.sink
-    }
+/// A counting sink that may be handed only the rest of the next answer.
+#[derive(Drop)]
+struct ScriptOutlet<'c, K, R, P> {
+    sink: CountingSink<'c, K>,
+    script: PhantomData<(R, P)>,
 }
 
 impl<K: Sink, R, P: Script<R>> Outlet for ScriptOutlet<'_, K, R, P> {
@@ -77,28 +74,53 @@ impl<K: Sink, R, P: Script<R>> Outlet for ScriptOutlet<'_, K, R, P> {
 /// Runs a session whose answers follow from their number alone into an empty sink in memory with counts in memory. Each
 /// answer of which the sink has taken a byte is counted once, whatever parts of it the sink takes at a time. It is
 /// counted by its status, of which 15 have a count of their own.
-pub fn count_session<S: Source, K: Sink, R: Responder, P: Script<R>>(
+pub(crate) fn count_session<'c, S: Source, K: Sink, R: Responder, P: Script<R>>(
     intake: &mut Intake,
     source: &mut S,
-    outlet: &mut ScriptOutlet<'_, K, R, P>,
+    sink: CountingSink<'c, K>,
     responder: &mut R,
-) -> ConnEnd
+) -> CountingSink<'c, K>
     requires fresh { intake.old.given ≡ 0 }
     requires empty { intake.old.unread ≡ [] }
     requires ready { R.ready responder.old }
+    requires follows { P.follows responder.old }
     requires first { P.given responder.old ≡ 0 }
     requires answers { (before : R) (request : RequestText) (text : List ℕ) (after : R)
-        → P.given before < 65536 → R.answers before request text after
-        → (text ≡ P.text (P.given before)) × (P.given after ≡ P.given before + 1) }
+        → P.follows before → P.given before < 65536 → R.answers before request text after
+        → (text ≡ P.text (P.given before)) × (P.given after ≡ P.given before + 1) × P.follows after }
     requires refuses { (now : R) (fault : WireFault) (text : List ℕ)
-        → R.refuses now fault text → text ≡ P.text (P.given now) }
+        → P.follows now → R.refuses now fault text → text ≡ P.text (P.given now) }
     requires some { (n : ℕ) → 0 < length (P.text n) }
-    requires idle { outlet.old.sink.turn.left ≡ 0 }
-    requires tells { K.told outlet.old.sink.sink ≡ Some [] }
-    ensures counted { AreCounted P.text (K.told outlet.new.sink.sink)
-        outlet.old.sink.counts outlet.new.sink.counts }
+    requires idle { sink.turn.left ≡ 0 }
+    requires tells { K.told sink.sink ≡ Some [] }
+    ensures counted { AreCounted P.text (K.told result.sink) sink.entry.counts result.counts }
 {
-    run_permitted(intake, source, outlet, responder)
+    let mut outlet: ScriptOutlet<'c, K, R, P> = ScriptOutlet {
+        sink,
+        script: PhantomData,
+    };
+    let _end = run_permitted(intake, source, &mut outlet, responder);
+    let ScriptOutlet { sink, script: _ } = outlet;
+    sink
+}
+
+/// Answers the requests that come with these replies, one after the other, into an empty sink in memory that counts in
+/// memory. Its counts by status are those of the answers of which it has taken a byte, once each, and add up to them.
+pub fn count_replies<'c, S: Source, K: Sink + Drop>(
+    alloc: Global,
+    source: &mut S,
+    sink: K,
+    replies: &[Reply],
+) -> Result<CountingSink<'c, K>, AllocError>
+    requires some { All (λ reply. 0 < length reply.head.items) replies.now }
+    requires tells { K.told sink ≡ Some [] }
+    ensures counted { IfOk result (λ counting.
+        AddUp (text_at replies.now) (K.told counting.sink) counting.counts) }
+{
+    let mut intake = Intake::start(alloc)?;
+    let counting = CountingSink::plain(alloc, sink)?;
+    let mut responder = Listed::of(replies);
+    Ok(count_session::<S, K, Listed<'_>, Brand>(&mut intake, source, counting, &mut responder))
 }
 
 /// The counts by status, of which there are sixteen, add up to what they were before and the answers that have begun,

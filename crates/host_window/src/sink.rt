@@ -73,6 +73,7 @@ impl<K> CountingSink<'_, K> {
 // Of a write of two pieces that many bytes were taken: the label of the answer that has begun with them, if one has.
 #[inline(always)]
 fn begun(turn: &mut Turn, first: &[u8], second: &[u8], taken: usize) -> Option<usize>
+    requires some { 0 < taken }
     ensures turns { MatchOption result
         (Turns turn.old.left (length (first.now ++ second.now)) taken false turn.new.left)
         (λ _. Turns turn.old.left (length (first.now ++ second.now)) taken true turn.new.left) }
@@ -89,11 +90,12 @@ impl<K: Sink> CountingSink<'_, K> {
     // they are its first.
     #[inline(always)]
     fn note(&mut self, first: &[u8], second: &[u8], taken: usize)
+        requires some { 0 < taken }
         ensures same { self.new.sink ≡ self.old.sink }
         ensures noted { NotesIn self.old.counts self.old.turn.left (first.now ++ second.now) taken
             self.new.counts self.new.turn.left }
     {
-        match &mut self.counts {
+        match &self.counts {
             Noted::Nowhere => {}
             Noted::Shared(counts) => {
                 counts.note_sent(taken);
@@ -101,10 +103,22 @@ impl<K: Sink> CountingSink<'_, K> {
                     counts.note_answer(label, second);
                 }
             }
-            Noted::Plain(counts) => {
-                if let Some(label) = begun(&mut self.turn, first, second, taken) {
-                    note_plain(counts, label);
-                }
+            Noted::Plain(_) => self.note_apart(first, second, taken),
+        }
+    }
+
+    // The same where counts stand in memory.
+    #[cold]
+    #[inline(never)]
+    fn note_apart(&mut self, first: &[u8], second: &[u8], taken: usize)
+        requires some { 0 < taken }
+        ensures same { self.new.sink ≡ self.old.sink }
+        ensures noted { NotesIn self.old.counts self.old.turn.left (first.now ++ second.now) taken
+            self.new.counts self.new.turn.left }
+    {
+        if let Noted::Plain(counts) = &mut self.counts {
+            if let Some(label) = begun(&mut self.turn, first, second, taken) {
+                note_plain(counts, label);
             }
         }
     }
@@ -155,7 +169,9 @@ impl<K: Sink> CountingSink<'_, K> {
             PushedBoth::Took(taken) => self.note(first, second, taken),
             PushedBoth::Failed(taken) => {
                 self.note_failed();
-                self.note(first, second, taken);
+                if taken != 0 {
+                    self.note(first, second, taken);
+                }
             }
         }
         pushed

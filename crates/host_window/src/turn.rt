@@ -1,5 +1,5 @@
 //! Which writes begin an answer.
-ghost use Rattle.std.specs.Prelude.{◌≡◌};
+ghost use Rattle.std.specs.Prelude.{◌≡◌, ◌<◌};
 ghost use Rattle.host_window.specs.Counting.{Turns};
 
 /// How many bytes of the answer that is being written are left.
@@ -20,13 +20,11 @@ impl Turn {
     /// whether they are the first of a new one.
     #[inline(always)]
     pub(crate) fn begins(&mut self, size: usize, taken: usize) -> bool
+        requires some { 0 < taken }
         ensures { Turns self.old.left size taken result self.new.left }
     {
         if self.left != 0 {
             self.left = self.left.saturating_sub(taken);
-            return false;
-        }
-        if taken == 0 {
             return false;
         }
         if taken != size {

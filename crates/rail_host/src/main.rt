@@ -22,7 +22,7 @@ use exit::run_host;
 use host_catalogue::{CommandEnd, end_command};
 use host_io::{FileJournal, SleepTicker, TcpBell, TcpPort};
 use host_journal::Keeping;
-use host_window::{CountingJournal, CountingTicker, show_all};
+use host_window::{CountingJournal, CountingTicker, Pages, show_all};
 use rail_io::{Bell, FileShelf, ReaderSource, WriterSink};
 use std::alloc::{AllocError, Global};
 use std::io::ErrorKind;
@@ -65,8 +65,12 @@ fn main(rt: HostRuntime) -> ExitCode {
             let Some(mut port) = window_port(&rt, alloc, window) else {
                 return ExitCode::from(end_command(&mut notes, &CommandEnd::ReadFault));
             };
-            let waits = &rt;
-            let shown = scope.spawn(move || show_all(waits, alloc, &mut port, &window.counters));
+            let mut pages = Pages {
+                rt: &rt,
+                alloc,
+                counters: &window.counters,
+            };
+            let shown = scope.spawn(move || show_all(&mut port, &mut pages));
             if shown.is_err() {
                 return ExitCode::from(end_command(&mut notes, &CommandEnd::NoMemory));
             }

@@ -5,9 +5,10 @@ use Rattle.host_window.proofs.run.count_session.Goals as goal
 
 pub run_permitted-requires-clause-permits : goal.run_permitted-requires-clause-permits
 run_permitted-requires-clause-permits g c =
-    λ now piece m. rest_of g.P.Script.text g.P.Script.given g.R.Responder.answers g.R.Responder.refuses c.requires.answers c.requires.refuses
-    g.R.Responder.awaits (showing _ _ _) c.args.responder.now (g.S.Source.told c.args.source.now) c.args.outlet.now now piece
-    c.requires.first c.requires.tells m
+    λ now piece m. rest_of g.P.Script.text g.P.Script.follows g.P.Script.given g.R.Responder.answers g.R.Responder.refuses
+    c.requires.answers c.requires.refuses g.R.Responder.awaits (showing _ _ _) c.args.responder.now
+    (g.S.Source.told c.args.source.now) (record { sink = c.args.sink; script = _ }) now piece
+    c.requires.follows c.requires.first c.requires.tells m
 
 pub returns : goal.returns
 returns g c =
@@ -19,6 +20,6 @@ returns g c =
           (λ w. Tells text c.requires.some counts (record { told = g.K.Sink.told w.sink.sink; left = w.sink.turn.left; counts = w.sink.counts }))
           (λ before bytes after took. took_of text c.requires.some counts _ bytes _ took)
           (λ before cut after same. tells_same text c.requires.some counts _ _ same.0 (ap (λ t. t.left) same.1) same.2)
-          c.args.outlet.now c.run_permitted.new.sink did.1 did.3
+          (record { sink = c.args.sink; script = _ }) c.run_permitted.new.sink did.1 did.3
           (at_first text c.requires.some counts _ c.requires.tells c.requires.idle plain));
     }
