@@ -106,7 +106,7 @@ impl<K: Receipt + Drop> Cuts<K> {
         tally.has_kept(cut)
     }
 
-    /// Whether the journal is lost. It takes no lock.
+    /// Is to say whether the journal is lost: no clause does. It takes no lock.
     pub fn is_lost(&self) -> bool {
         self.lost.load(Ordering::SeqCst)
     }

@@ -151,11 +151,11 @@ fn drill<R: Threads + Sync, K: Sink>(
 /// |---|---|
 /// | 0 | all requests were answered, and the line is printed |
 /// | 2 | the words are refused |
-/// | 4 | the output failed in this call, or before it as often as is counted |
+/// | 4 | the output failed in this call |
 /// | 5 | there was no memory for some part of it |
 ///
-/// Each has the note of its end, and a failing note changes no status. Threads are started for the connections, and all
-/// are joined.
+/// Each has the note of its end, and a failing note changes no status. A device that has failed as often as is counted
+/// may have failed before this call. Threads are started for the connections, and all are joined.
 pub fn run_drill<R: Threads + Sync, K: Sink, E: Sink>(
     rt: &R,
     alloc: Global,

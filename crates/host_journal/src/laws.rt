@@ -6,7 +6,7 @@ ghost use Rattle.host_journal.specs.There.{AnswersAreThereAgain};
 
 /// Where an answer's cut is kept, the journal has a cut that shows all that the answer tells. What its desk had seen
 /// when it was given its cut had happened when the looks of the journal's cut began, but for looks. So it is at each
-/// later moment, whatever desks and threads do in between.
+/// later moment, whichever moments come in between.
 pub fn answers_follow_cuts()
     ensures follows { AnswersFollowCuts }
 {}

@@ -60,6 +60,8 @@ fn serve<S: Source, K: Sink>(
 /// | 4 | the output failed in this call |
 /// | 5 | there was no memory to begin with |
 /// | 6 | the input ended inside a request, or was refused |
+///
+/// A device that has failed as often as is counted may have failed before this call.
 pub fn run_tiny<S: Source, K: Sink, E: Sink>(
     alloc: Global,
     words: &[String],

@@ -72,8 +72,8 @@ impl<K: Sink, R, P: Script<R>> Outlet for ScriptOutlet<'_, K, R, P> {
 }
 
 /// Runs a session whose answers follow from their number alone into an empty sink in memory with counts in memory. Each
-/// answer of which the sink has taken a byte is counted once, whatever parts of it the sink takes at a time. It is
-/// counted by its status, of which 15 have a count of their own.
+/// answer of which the sink has taken a byte is counted once, while its count is below 2^64 - 1, whatever parts of it
+/// the sink takes at a time. It is counted by its status, of which 15 have a count of their own.
 pub(crate) fn count_session<'c, S: Source, K: Sink, R: Responder, P: Script<R>>(
     intake: &mut Intake,
     source: &mut S,

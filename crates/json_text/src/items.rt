@@ -22,9 +22,10 @@ pub struct Items<'a> {
 impl<'a> Items<'a> {
     /// The next item, or `None` at the list's end.
     ///
-    /// Only this item is looked at. Of a list that is no JSON further on, the items before the fault are handed out,
-    /// and then comes an error and never `None`. What stands after the list isn't looked at. After `None` or an error
-    /// nothing is said of what a further call answers: it may be a value from after the end, or from after the fault.
+    /// It is to look at this item only. Of a list that is no JSON further on, some values may be handed out, of which
+    /// nothing is said; then comes an error, and never `None`. What stands after the list isn't looked at. After `None`
+    /// or an error nothing is said of what a further call answers: it may be a value from after the end, or from after
+    /// the fault.
     pub fn next(&mut self, alloc: Global) -> Result<Option<Value<'a>>, ReadFault>
         ensures ok { IfOk result (λ v. MatchOption v (ahead self.old ≡ Some no_items)
             (λ v. ahead self.old ≡ option_map (item (view v)) (ahead self.new))) }
@@ -37,9 +38,10 @@ impl<'a> Items<'a> {
     }
 }
 
-/// The items of the list that stands at this place among the members of the outermost object; `None` where no list
-/// does, and for bytes that aren't UTF-8. After the bracket that opens the list nothing is looked at, so the text
-/// needn't be JSON. In a text that is none, what stands after the object's closing brace may pass for one more member.
+/// The items of the list that stands at this place among the members of the outermost object; `None` where another
+/// value stands there. Of bytes that aren't UTF-8 no clause speaks. After the bracket that opens the list nothing is
+/// looked at, so the text needn't be JSON. In a text that is none, what stands after the object's closing brace may
+/// pass for one more member.
 pub fn items_at<'a>(
     bytes: &'a [u8],
     scratch: &'a mut Scratch,

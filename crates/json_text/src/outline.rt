@@ -15,9 +15,9 @@ use std::alloc::{AllocError, Global};
 /// What a text is, without the members of one name of its outermost object.
 #[derive(Drop)]
 pub struct Outline<'a> {
-    /// The value without them.
+    /// The value without them, where it is an object.
     pub kept: Value<'a>,
-    /// How many members stand before the last of that name, if it is there.
+    /// How many members stand before one that has the value of the last of that name, if it is there.
     pub place: Option<usize>,
 }
 

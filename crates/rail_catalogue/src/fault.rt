@@ -10,7 +10,7 @@ use train_runs::RunFault;
 /// Why a text is no catalogue. The first fault in the order of the format is the answer.
 #[derive(Drop)]
 pub enum CatalogueFault {
-    /// It is no JSON in UTF-8 (RFC 8259), or nests deeper than 127.
+    /// It is no JSON in UTF-8 (RFC 8259), nests deeper than 127, or has a number that is too large for a float.
     NotJson,
     /// The member at this path is missing, of another kind, out of its range or against its rule. A text that is no
     /// object has the empty path.

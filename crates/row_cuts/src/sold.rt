@@ -10,14 +10,14 @@ use claim_rule::{Books, Desk};
 use place_map::{Class, Place};
 use rail_ids::PlaceNo;
 
-/// How many places of each class were seen with a leg sold.
+/// How many places of each class were seen with a leg taken: sold, or held by a booking that was being made or ended.
 #[derive(Clone, Copy, PartialEq, Eq)]
 pub struct SoldCount {
     pub first: u32,
     pub second: u32,
 }
 
-/// Looks at both halves of each of these places once, in rising number, and counts those of which a leg was sold. The
+/// Looks at both halves of each of these places once, in rising number, and counts those with a leg taken. The
 /// places are those of the books, from the first one on. While other desks step, two looks may be of two moments.
 pub fn count_sold(places: &[Place], books: &Books, desk: &mut Desk) -> SoldCount
     requires own { IsOf books.now desk.old }
@@ -41,7 +41,7 @@ pub fn count_sold(places: &[Place], books: &Books, desk: &mut Desk) -> SoldCount
     count
 }
 
-// Whether looks at both halves of a place show a leg sold.
+// Whether looks at both halves of a place show a leg taken.
 fn look_sold(books: &Books, desk: &mut Desk, place: PlaceNo) -> bool
     requires own { IsOf books.now desk.old }
     requires place { place.0 < length books.now.layout.legs }
