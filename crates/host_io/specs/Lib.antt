@@ -6,3 +6,4 @@ pub mod Talks
 pub mod Paces
 pub mod Refusals
 pub mod Doors
+pub mod Asked

@@ -1,6 +1,7 @@
 //! What only a serving host needs of this machine: a port, and when it is time to sweep.
 //!
 //! `TcpPort` stands before a port, whose answers an `Outbox` holds back, and `SleepTicker` before the machine's clock.
+//! `asked_of` reads from the words of `serve` what `main` itself does by them: the address and the operator's window.
 //!
 //! It is a crate of its own since `TcpPort`, its streams and `SleepTicker` are the edge of the proof: what the system
 //! does is trusted there. What single answers mean is proved. What is done then is proved as far as the clauses of
@@ -8,6 +9,7 @@
 #![tactic(auto)]
 
 mod address;
+mod asked;
 mod bell;
 mod callers;
 mod door;
@@ -36,8 +38,10 @@ mod tcp_port;
 mod tcp_wire;
 mod ticker;
 mod watch;
+mod window;
 mod wire;
 
+pub use asked::{Asked, asked_of};
 pub use bell::TcpBell;
 pub use door::Door;
 pub use halves::SocketReader;
@@ -59,4 +63,5 @@ pub use tcp_port::{Port, TcpPort};
 pub use tcp_wire::TcpWire;
 pub use ticker::SleepTicker;
 pub use watch::Watch;
+pub use window::{UntilOver, Window, counters_of, window_port};
 pub use wire::Wire;

@@ -146,12 +146,12 @@ fn end_unread<E: Sink, L>(outcome: ServeOutcome, listener: L, notes: &mut E) -> 
 /// | 4 | the journal failed while its bookings were served, and all connections have ended |
 ///
 /// It is too large from 4,294,967,296 bytes on. All else is as without a journal. Where the devices have somebody who
-/// asks what is in the books, one member more looks. In the wall's history the desks of these further members, which are
-/// the last, only look. Words that name a journal are refused where none is given.
+/// asks what is in the books, one member more looks. In the wall's history the desks of these further members, which
+/// are the last, only look. Words that name a journal are refused where none is given.
 ///
 /// No clause says that what that member saw is kept, nor that the journal has the causes above for another host, for
-/// what couldn't be read or written, and for what failed. Nor that it is there, where `--from` is refused beside it.
-/// That is read and tested.
+/// what couldn't be read or written, and for what failed. Nor that it is there, where it and `--from` are refused
+/// together. That is read and tested.
 pub fn serve_kept<
     'g,
     R: Threads + Wait + Sync,

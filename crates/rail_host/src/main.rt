@@ -8,19 +8,18 @@
 ghost use Rattle.std.specs.Prelude.{◌≡◌, IfOk, drop};
 ghost use Rattle.std.specs.Vec.Iter.{into_iter_items};
 
-mod asked;
 mod devices;
 mod exit;
 mod program;
 mod serve;
-mod window;
 
 use answer_gate::{Cuts, GateKeeper};
-use asked::{Asked, asked_of};
 use devices::{Devices, ForServe};
 use exit::run_host;
 use host_catalogue::{CommandEnd, end_command};
-use host_io::{FileJournal, SleepTicker, TcpBell, TcpPort};
+use host_io::{
+    Asked, FileJournal, SleepTicker, TcpBell, TcpPort, asked_of, counters_of, window_port,
+};
 use host_journal::Keeping;
 use host_window::{CountingJournal, CountingTicker, Pages, show_all};
 use rail_io::{Bell, FileShelf, ReaderSource, WriterSink};
@@ -29,7 +28,6 @@ use std::io::ErrorKind;
 use std::process::ExitCode;
 use std::rt::Env;
 use std::{env, thread};
-use window::{counters_of, window_port};
 
 /// The words after the first, which is the program's name. None of them is left out.
 fn words_after_name(alloc: Global, mut given: env::Args) -> Result<Vec<String>, AllocError>
@@ -65,11 +63,7 @@ fn main(rt: HostRuntime) -> ExitCode {
             let Some(mut port) = window_port(&rt, alloc, window) else {
                 return ExitCode::from(end_command(&mut notes, &CommandEnd::ReadFault));
             };
-            let mut pages = Pages {
-                rt: &rt,
-                alloc,
-                counters: &window.counters,
-            };
+            let mut pages = Pages::of(&rt, alloc, &window.counters);
             let shown = scope.spawn(move || show_all(&mut port, &mut pages));
             if shown.is_err() {
                 return ExitCode::from(end_command(&mut notes, &CommandEnd::NoMemory));

@@ -1,9 +1,9 @@
 // The operator's window, where the words ask for it.
 ghost use Rattle.std.specs.Prelude.{IfOk};
 ghost use Rattle.host_words.specs.Options.{words_texts};
-ghost use Rattle.rail_host.specs.Asked.{IsAskedWindow};
+ghost use Rattle.host_io.specs.Asked.{IsAskedWindow};
 
-use host_io::TcpPort;
+use crate::tcp_port::TcpPort;
 use host_window::Counters;
 use host_words::{CommandName, is_for, read_window};
 use rail_io::Keeper;

@@ -2,7 +2,7 @@
 ghost use Rattle.std.specs.Prelude.{◌≡◌, IfErr, IfOk, None};
 ghost use Rattle.host_io.specs.Tcp.{IsLocal};
 ghost use Rattle.host_words.specs.Options.{words_texts};
-ghost use Rattle.rail_host.specs.Asked.{IsAskedAddress, IsNotAsked, IsSaid, IsAskedWindow};
+ghost use Rattle.host_io.specs.Asked.{IsAskedAddress, IsNotAsked, IsSaid, IsAskedWindow};
 
 use crate::window::{Window, asked_window};
 use host_catalogue::CommandEnd;

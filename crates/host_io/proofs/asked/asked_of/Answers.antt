@@ -2,8 +2,8 @@ use Rattle.std.proofs.Common.{sym, subst}
 use Rattle.host_words.specs.Options.{words_texts}
 use Rattle.host_catalogue.specs.declared.ending.CommandEnd.{CommandEnd}
 use Rattle.host_catalogue.proofs.Opened.{err_is}
-use Rattle.rail_host.specs.Asked.{IsNotAsked}
-use Rattle.rail_host.proofs.asked.asked_of.Goals as goal
+use Rattle.host_io.specs.Asked.{IsNotAsked}
+use Rattle.host_io.proofs.asked.asked_of.Goals as goal
 
 pub returns-in_err-address-clause-refused : goal.returns-in_err-address-clause-refused
 returns-in_err-address-clause-refused c =

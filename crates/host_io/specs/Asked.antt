@@ -7,7 +7,7 @@ use Rattle.host_words.specs.Commands.{IsFor}
 use Rattle.host_words.specs.Window.{window_words}
 use Rattle.host_words.specs.declared.command.CommandName.TheVariants.{Serve}
 use Rattle.host_words.specs.declared.window.WindowWords.{WindowWords}
-use Rattle.rail_host.specs.declared.window.Window.{Window}
+use Rattle.host_io.specs.declared.window.Window.{Window}
 use Rattle.host_catalogue.specs.declared.ending.CommandEnd.{CommandEnd}
 use Rattle.host_catalogue.specs.declared.ending.CommandEnd.TheVariants.{WordsRefused, NoMemory}
 
