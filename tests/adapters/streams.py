@@ -84,7 +84,8 @@ STREAMS = [
 # What ends a connection, with its answer.
 FAULTS = {
     "BadHead": ("400 Bad Request", '{"code":"BadHead","status":400,"title":"Bad head"}'),
-    "HeadTooLarge": ("431 Request Header Fields Too Large", '{"code":"HeadTooLarge","status":431,"title":"Head too large"}'),
+    "HeadTooLarge": ("431 Request Header Fields Too Large",
+                     '{"code":"HeadTooLarge","status":431,"title":"Head too large"}'),
     "Coding": ("501 Not Implemented", '{"code":"Coding","status":501,"title":"Coding not supported"}'),
     "BadLength": ("400 Bad Request", '{"code":"BadLength","status":400,"title":"Bad length"}'),
     "BodyTooLarge": ("413 Content Too Large", '{"code":"BodyTooLarge","status":413,"title":"Body too large"}'),
