@@ -43,9 +43,10 @@ LEFT = [(ONE, 1, 6), (ONE, 7, 3), (TWO, 1, 6), (TWO, 18, 6), (TWO, 20, 2), (TWO,
         (BODY, 7, 3)]
 
 # The life of a booking over a socket: what is asked, and what is answered. A # stands for a digit of its limit.
-BOOKING = ('{"confirmableUntil":"####-##-##T##:##:##Z","id":"B000000","price":{"amount":600,"currency":"EUR","scale":2},'
-           '"reservations":[{"coach":1,"from":"BERN","place":11,"run":1,"to":"THUN","train":812}],"settled":false,'
-           '"status":"%s"}')
+BOOKING = ('{"confirmableUntil":"####-##-##T##:##:##Z","id":"B000000",'
+           '"price":{"amount":600,"currency":"EUR","scale":2},'
+           '"reservations":[{"coach":1,"from":"BERN","place":11,"run":1,"to":"THUN","train":812}],'
+           '"settled":false,"status":"%s"}')
 ROUTES = [
     ("POST /reservations", '{"from":"BERN","run":1,"to":"THUN"}', "201 Created", BOOKING % "PREBOOKED"),
     ("POST /bookings/B000000/fulfillments", "", "200 OK", BOOKING % "CONFIRMED"),

@@ -177,7 +177,7 @@ def slow_readers(program: str) -> int:
         with Host(program, len(LIST_SIZES), WORKERS, catalogue=catalogue) as host, \
                 concurrent.futures.ThreadPoolExecutor(WORKERS) as pool:
             for size, got in [(size, pool.submit(asked, host, data, size, 1)) for size in LIST_SIZES]:
-                expect(got.result() == wanted, "by %d, and read a byte at a time: other answers than the case has" % size)
+                expect(got.result() == wanted, "by %d, read a byte at a time: other answers than the case has" % size)
             host.end()
     return len(LIST_SIZES)
 
