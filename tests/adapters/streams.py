@@ -3,7 +3,7 @@
   streams.py PROGRAM
 
 Each stream has the requests that its row says, and after them what its row says: an answer for each, and one for what
-ends the connection. It comes to `replay` in reads of 1, 2, 3 and 7 bytes and whole (`standard.c`), and to `serve` over
+ends the connection. The model reads it so too. It comes to `replay` in reads of 1, 2, 3 and 7 bytes and whole (`standard.c`), and to `serve` over
 connections that are cut up by their clients, of which some read a byte at a time. Last, clients that send in pieces
 and read a byte at a time get long answers whole.
 
@@ -20,9 +20,10 @@ import sys
 import tempfile
 
 HERE = pathlib.Path(__file__).resolve().parent
-sys.path[:0] = [str(HERE.parent / "host")]
+sys.path[:0] = [str(HERE.parent / "model"), str(HERE.parent / "host")]
 from sockets import Host, Wrong, expect  # noqa: E402
 from standard import INPUT_CUT, INPUT_REFUSED, Standard  # noqa: E402
+from wire import read_requests  # noqa: E402
 
 SIZES = [1, 2, 3, 7, 1_000_000]
 WORKERS = 8
@@ -121,6 +122,14 @@ def outcome_of(row: tuple) -> tuple:
     return (6, answers_to(row), INPUT_CUT) if after == "Cut" else (0, answers_to(row), "")
 
 
+def by_the_model(standard: Standard):
+    """What the model reads of each stream."""
+    for stream, count, after in STREAMS:
+        requests, rest = read_requests(stream)
+        wanted = (count, "Closed" if after == "Last" else after)
+        standard.check("the model: %r" % stream[:60], (len(requests), rest.value), wanted)
+
+
 def over_standard_input(standard: Standard):
     for number, row in enumerate(STREAMS):
         for size in SIZES:
@@ -186,6 +195,7 @@ def main() -> int:
     program = sys.argv[1]
     with tempfile.TemporaryDirectory() as name:
         standard = Standard(program, pathlib.Path(name))
+        by_the_model(standard)
         over_standard_input(standard)
     connections = over_connections(program) + slow_readers(program)
     return standard.end("%d streams: %d runs at standard input, %d connections" %
