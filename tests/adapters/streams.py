@@ -3,9 +3,9 @@
   streams.py PROGRAM
 
 Each stream has the requests that its row says, and after them what its row says: an answer for each, and one for what
-ends the connection. The model reads it so too. It comes to `replay` in reads of 1, 2, 3 and 7 bytes and whole (`standard.c`), and to `serve` over
-connections that are cut up by their clients, of which some read a byte at a time. Last, clients that send in pieces
-and read a byte at a time get long answers whole.
+ends the connection. The model reads it so too. It comes to `replay` in reads of 1, 2, 3 and 7 bytes and whole
+(`standard.c`), and to `serve` over connections that are cut up by their clients, of which some read a byte at a time.
+Last, clients that send in pieces and read a byte at a time get long answers whole.
 
 It needs cc and glibc, since `standard.c` stands before the C library.
 """
