@@ -43,9 +43,10 @@ LEFT = [(ONE, 1, 6), (ONE, 7, 3), (TWO, 1, 6), (TWO, 18, 6), (TWO, 20, 2), (TWO,
         (BODY, 7, 3)]
 
 # The life of a booking over a socket: what is asked, and what is answered. A # stands for a digit of its limit.
-PLACE = '"reservations":[{"coach":1,"from":"BERN","place":11,"run":1,"to":"THUN","train":812}],"settled":false,"status":"%s"}'
-PRICE = '"price":{"amount":600,"currency":"EUR","scale":2},'
-BOOKING = '{"confirmableUntil":"####-##-##T##:##:##Z","id":"B000000",' + PRICE + PLACE
+BOOKING = ('{"confirmableUntil":"####-##-##T##:##:##Z","id":"B000000",'
+           '"price":{"amount":600,"currency":"EUR","scale":2},'
+           '"reservations":[{"coach":1,"from":"BERN","place":11,"run":1,"to":"THUN","train":812}],'
+           '"settled":false,"status":"%s"}')
 ROUTES = [
     ("POST /reservations", '{"from":"BERN","run":1,"to":"THUN"}', "201 Created", BOOKING % "PREBOOKED"),
     ("POST /bookings/B000000/fulfillments", "", "200 OK", BOOKING % "CONFIRMED"),
@@ -107,12 +108,14 @@ def interrupts(standard: Standard, asked: bytes, answered: bytes):
             got = standard.run(REPLAY, asked, size=READ_SIZE, **told)[:3]
             standard.check("after %d interrupts: %s" % (count, told), got, (0, answered, ""))
     count = MOST_INTERRUPTS + 1
-    standard.check("a read after too many", standard.run(REPLAY, asked, input_interrupts=count)[:3], (3, b"", READ_FAULT))
-    standard.check("a write after too many", standard.run(REPLAY, asked, output_interrupts=count)[:3], (4, b"", WRITE_FAULT))
+    got = standard.run(REPLAY, asked, input_interrupts=count)[:3]
+    standard.check("a read after too many", got, (3, b"", READ_FAULT))
+    got = standard.run(REPLAY, asked, output_interrupts=count)[:3]
+    standard.check("a write after too many", got, (4, b"", WRITE_FAULT))
 
 
 def failing_reads(standard: Standard, asked: bytes, answered: bytes):
-    """What is whole in the bytes before the read that fails is answered, and nothing else. The last read finds the end."""
+    """What is whole in the bytes before the read that fails is answered, and no more. The last read finds the end."""
     requests, answers = ends_of_requests(asked), ends_of_answers(answered)
     reads = -(-len(asked) // READ_SIZE)
     for number in range(1, reads + 3):
@@ -139,11 +142,13 @@ def failing_writes(standard: Standard, asked: bytes, answered: bytes):
 
 
 def tiny(standard: Standard):
-    """The same of `tiny`, whose answers go out by a call each, head and body together; and notes that can't be written."""
+    """The same of `tiny`, whose answers go out by a call each, head and body together; each front of a request; and
+    notes that can't be written."""
     standard.check("tiny: read 1 fails", standard.run("tiny 3 2", TINY, read=1)[:3], (3, b"", READ_FAULT))
     standard.check("tiny: read 2 fails", standard.run("tiny 3 2", TINY, read=2)[:3], (3, SOLD, READ_FAULT))
     standard.check("tiny: write 1 fails", standard.run("tiny 3 2", TINY, write=1)[:3], (4, b"", WRITE_FAULT))
-    standard.check("tiny: two answers by two writes", standard.run("tiny 3 2", TINY * 2, write=2)[:3], (4, SOLD, WRITE_FAULT))
+    got = standard.run("tiny 3 2", TINY * 2, write=2)[:3]
+    standard.check("tiny: two answers by two writes", got, (4, SOLD, WRITE_FAULT))
     head = standard.run("tiny 3 2", TINY, write=2, size=len(TINY_HEAD))[:3]
     standard.check("tiny: write 2 fails", head, (4, TINY_HEAD, WRITE_FAULT))
     for length in range(len(TINY)):
@@ -151,7 +156,8 @@ def tiny(standard: Standard):
         standard.check("tiny: %d bytes" % length, standard.run("tiny 3 2", TINY[:length])[:3], wanted)
     with open("/dev/full", "wb") as full:
         standard.check("tiny: no notes", standard.run("tiny 3 2", TINY, notes=full)[:2], (0, SOLD))
-        standard.check("tiny: write 1 and the note fail", standard.run("tiny 3 2", TINY, notes=full, write=1)[:2], (4, b""))
+        got = standard.run("tiny 3 2", TINY, notes=full, write=1)[:2]
+        standard.check("tiny: write 1 and the note fail", got, (4, b""))
 
 
 def no_more_than_needed(standard: Standard):
@@ -212,8 +218,8 @@ def failing_calls(calls: Calls):
             done = LETTERS.index(letter)
             if whole < len(ASKED):
                 met.add(done - whole)
-            expect(status == 0 and done in (whole, whole + 1), "call %d fails: status %d, %d answers, the booking is %s" %
-                   (number, status, whole, letter))
+            expect(status == 0 and done in (whole, whole + 1),
+                   "call %d fails: status %d, %d answers, the booking is %s" % (number, status, whole, letter))
     expect(met == {0, 1}, "of %d failing calls none was met before its command, or none after" % FAILING)
 
 

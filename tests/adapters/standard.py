@@ -27,7 +27,7 @@ class Standard:
         (folder / "k1.json").write_bytes(EXAMPLE.read_bytes())
 
     def run(self, line: str, data: bytes, notes=subprocess.PIPE, **told) -> tuple:
-        """The status, the output and the note of a run whose calls are answered so, and how much of its input is left."""
+        """The status, the output and the note of a run whose calls are answered so, and what is left of its input."""
         self.runs += 1
         more = {"STANDARD_" + name.upper(): str(value) for name, value in told.items()}
         environment = {**os.environ, "STANDARD_ERROR": str(errno.EIO), **more, "LD_PRELOAD": str(self.library)}

@@ -3,9 +3,9 @@
   streams.py PROGRAM
 
 Each stream has the requests that its row says, and after them what its row says: an answer for each, and one for what
-ends the connection. It comes to `replay` in reads of 1, 2, 3 and 7 bytes and whole (`standard.c`), and to `serve` over
-connections that are cut up by their clients, of which some read a byte at a time. Last, clients that send in pieces
-and read a byte at a time get long answers whole.
+ends the connection. The model reads it so too. It comes to `replay` in reads of 1, 2, 3 and 7 bytes and whole
+(`standard.c`), and to `serve` over connections that are cut up by their clients, of which some read a byte at a time.
+Last, clients that send in pieces and read a byte at a time get long answers whole.
 
 It needs cc and glibc, since `standard.c` stands before the C library.
 """
@@ -20,9 +20,10 @@ import sys
 import tempfile
 
 HERE = pathlib.Path(__file__).resolve().parent
-sys.path[:0] = [str(HERE.parent / "host")]
+sys.path[:0] = [str(HERE.parent / "model"), str(HERE.parent / "host")]
 from sockets import Host, Wrong, expect  # noqa: E402
 from standard import INPUT_CUT, INPUT_REFUSED, Standard  # noqa: E402
+from wire import read_requests  # noqa: E402
 
 SIZES = [1, 2, 3, 7, 1_000_000]
 WORKERS = 8
@@ -84,7 +85,8 @@ STREAMS = [
 # What ends a connection, with its answer.
 FAULTS = {
     "BadHead": ("400 Bad Request", '{"code":"BadHead","status":400,"title":"Bad head"}'),
-    "HeadTooLarge": ("431 Request Header Fields Too Large", '{"code":"HeadTooLarge","status":431,"title":"Head too large"}'),
+    "HeadTooLarge": ("431 Request Header Fields Too Large",
+                     '{"code":"HeadTooLarge","status":431,"title":"Head too large"}'),
     "Coding": ("501 Not Implemented", '{"code":"Coding","status":501,"title":"Coding not supported"}'),
     "BadLength": ("400 Bad Request", '{"code":"BadLength","status":400,"title":"Bad length"}'),
     "BodyTooLarge": ("413 Content Too Large", '{"code":"BodyTooLarge","status":413,"title":"Body too large"}'),
@@ -118,6 +120,14 @@ def outcome_of(row: tuple) -> tuple:
     if after in FAULTS:
         return 6, answers_to(row), INPUT_REFUSED
     return (6, answers_to(row), INPUT_CUT) if after == "Cut" else (0, answers_to(row), "")
+
+
+def by_the_model(standard: Standard):
+    """What the model reads of each stream."""
+    for stream, count, after in STREAMS:
+        requests, rest = read_requests(stream)
+        wanted = (count, "Closed" if after == "Last" else after)
+        standard.check("the model: %r" % stream[:60], (len(requests), rest.value), wanted)
 
 
 def over_standard_input(standard: Standard):
@@ -176,7 +186,7 @@ def slow_readers(program: str) -> int:
         with Host(program, len(LIST_SIZES), WORKERS, catalogue=catalogue) as host, \
                 concurrent.futures.ThreadPoolExecutor(WORKERS) as pool:
             for size, got in [(size, pool.submit(asked, host, data, size, 1)) for size in LIST_SIZES]:
-                expect(got.result() == wanted, "by %d, and read a byte at a time: other answers than the case has" % size)
+                expect(got.result() == wanted, "by %d, read a byte at a time: other answers than the case has" % size)
             host.end()
     return len(LIST_SIZES)
 
@@ -185,6 +195,7 @@ def main() -> int:
     program = sys.argv[1]
     with tempfile.TemporaryDirectory() as name:
         standard = Standard(program, pathlib.Path(name))
+        by_the_model(standard)
         over_standard_input(standard)
     connections = over_connections(program) + slow_readers(program)
     return standard.end("%d streams: %d runs at standard input, %d connections" %

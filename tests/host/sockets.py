@@ -368,6 +368,10 @@ def asked(client: socket.socket, head: bytes, body: bytes = b"") -> dict:
     return json.loads(got)
 
 
+def seconds_of(moment: str) -> int:
+    return calendar.timegm(time.strptime(moment, "%Y-%m-%dT%H:%M:%SZ"))
+
+
 def until_expired(client: socket.socket, booking: dict) -> dict:
     """The booking after the host's own member has ended it: nobody confirms it, and nobody asks for a sweep."""
     until = time.monotonic() + 30
@@ -380,14 +384,17 @@ def until_expired(client: socket.socket, booking: dict) -> dict:
 
 
 def expiry(program: str):
-    """Two bookings come to their limits, one after the other, and two sweeps of the host's member end them, each at a
-    reading of its own. The host ends with its last connection."""
+    """Two bookings come to their limits by the system's clock, one after the other, and two sweeps of the host's member
+    end them, each at a reading of its own. The host ends with its last connection."""
     wish, ended = b'{"from":"BERN","run":1,"to":"THUN"}', []
     with catalogue_with(confirmSeconds=1) as name, Host(program, 1, 1, catalogue=name) as host:
         client = host.connect()
         for _ in range(2):
+            begin = int(time.time())
             booking = asked(client, b"POST /reservations", wish)
             expect(booking.get("status") == "PREBOOKED", "a reservation was answered %r" % booking)
+            limit = seconds_of(booking["confirmableUntil"])
+            expect(begin + 1 <= limit <= time.time() + 1, "a second's time ends at %d, asked at %d" % (limit, begin))
             ended.append(until_expired(client, booking)["endedAt"])
         expect(ended[0] < ended[1], "two sweeps have the moments %r" % ended)
         client.close()
@@ -502,7 +509,7 @@ def listener_that_goes(program: str):
             listener.close()
             client.close()
             output, notes = host.process.communicate(timeout=SECONDS)
-    limit = calendar.timegm(time.strptime(booking["confirmableUntil"], "%Y-%m-%dT%H:%M:%SZ"))
+    limit = seconds_of(booking["confirmableUntil"])
     wanted = example + "row 1 0 P 1 %d 600 1 12.0.1\nend 2\nrail_host: read fault\n" % limit
     got = (host.process.returncode, output, notes.decode())
     expect(got == (3, b"", wanted), "it ended with %r and not with the export and the note %r" % (got, wanted))
