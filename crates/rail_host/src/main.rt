@@ -65,11 +65,7 @@ fn main(rt: HostRuntime) -> ExitCode {
             let Some(mut port) = window_port(&rt, alloc, window) else {
                 return ExitCode::from(end_command(&mut notes, &CommandEnd::ReadFault));
             };
-            let mut pages = Pages {
-                rt: &rt,
-                alloc,
-                counters: &window.counters,
-            };
+            let mut pages = Pages::of(&rt, alloc, &window.counters);
             let shown = scope.spawn(move || show_all(&mut port, &mut pages));
             if shown.is_err() {
                 return ExitCode::from(end_command(&mut notes, &CommandEnd::NoMemory));
