@@ -1,5 +1,6 @@
 -- How callers are served, one after the other.
-use Rattle.std.specs.Prelude.{◌≡◌, ◌⊎◌, ◌-◌, ◌^◌, ℕ, zero, suc}
+use Rattle.std.specs.Prelude.{◌≡◌, ◌⊎◌, ℕ, zero, suc}
+use Rattle.host_window.specs.Counted.{last_number}
 
 -- what hands out callers, and what serves them
 pub record Counter (W V : Type 0) : Type 0 where
@@ -39,5 +40,5 @@ IsLast {W} {V} {I} {O} did mid after =
 -- as many were served as a number of 64 bits can count.
 abbrev pub ServesAll : {W V I O : Type 0} → Calls W V I O → Counter W V → Counter W V → Type 0
 ServesAll {W} {V} did before after =
-    ServesInTurn did (2 ^ 64 - 1) before after
+    ServesInTurn did last_number before after
     ⊎ ((served : ℕ) × (mid : Counter W V) × ServesInTurn did served before mid × IsLast did mid after)

@@ -20,9 +20,13 @@ number_in a b c =
 abbrev pub label_in : List ℕ → ℕ
 label_in text = status_number (number_in (slice_index text 9) (slice_index text 10) (slice_index text 11))
 
+-- the last number of 64 bits
+abbrev pub last_number : ℕ
+last_number = 2 ^ 64 - 1
+
 -- one more at this label; a count stands still at the last number of 64 bits
 abbrev pub raise : ℕ → List ℕ → List ℕ
-raise label counts = slice_set counts label (min (slice_index counts label + 1) (2 ^ 64 - 1))
+raise label counts = slice_set counts label (min (slice_index counts label + 1) last_number)
 
 -- a count for each label, where they stand in memory
 abbrev pub IsPlain : Noted → List ℕ → Type 0

@@ -1,5 +1,6 @@
 -- Answers that are known before.
-use Rattle.std.specs.Prelude.{◌≡◌, ◌+◌, ◌-◌, ◌^◌, ℕ, zero, suc, List, [], ◌∷◌, ◌++◌, codes, min}
+use Rattle.std.specs.Prelude.{◌≡◌, ◌+◌, ℕ, zero, suc, List, [], ◌∷◌, ◌++◌, codes, min}
+use Rattle.host_window.specs.Counted.{last_number}
 use Rattle.host_window.specs.declared.listed.Listed.{Listed}
 use Rattle.host_window.specs.declared.listed.Reply.{Reply}
 
@@ -20,7 +21,7 @@ text_at (reply ∷ replies) (suc number) = text_at replies number
 abbrev pub Gives : Listed → List ℕ → Listed → Type 0
 Gives before text after =
     (text ≡ text_at before.replies.now before.given) × (after.replies ≡ before.replies)
-    × (after.given ≡ min (before.given + 1) (2 ^ 64 - 1))
+    × (after.given ≡ min (before.given + 1) last_number)
 
 -- the next reply stands in a request's place, and is still the next
 abbrev pub Stands : Listed → List ℕ → Type 0

@@ -1,8 +1,8 @@
 -- What is counted in a run whose answers are known before: the texts of the first answer, the second, and so on.
-use Rattle.std.specs.Prelude.{◌≡◌, ◌<◌, ◌^◌, ℕ, zero, suc, List, [], ◌++◌, length, replicate, Option, Some}
+use Rattle.std.specs.Prelude.{◌≡◌, ◌<◌, ◌≤◌, ℕ, zero, suc, List, [], ◌++◌, length, replicate, Option, Some}
 use Rattle.std.specs.List.{sum}
 use Rattle.rail_io.specs.Told.{with_end}
-use Rattle.host_window.specs.Counted.{IsPlain, NotesIn, label_in, raise}
+use Rattle.host_window.specs.Counted.{IsPlain, NotesIn, label_in, last_number, raise}
 use Rattle.host_window.specs.declared.noted.Noted.{Noted}
 
 -- the first answers, that many, one after the other
@@ -38,7 +38,7 @@ AreCounted text told before after =
 abbrev pub AddUp : (ℕ → List ℕ) → Option (List ℕ) → Noted → Type 0
 AddUp text told noted =
     (begun : ℕ) × (bytes : List ℕ) × (counts : List ℕ) × (told ≡ Some bytes) × HaveBegun text begun bytes
-    × IsPlain noted counts × (counts ≡ raised text begun (replicate 16 0)) × (begun < 2 ^ 64 → sum counts ≡ begun)
+    × IsPlain noted counts × (counts ≡ raised text begun (replicate 16 0)) × (begun ≤ last_number → sum counts ≡ begun)
 
 -- what a counting sink tells, and where and how it counts
 pub record CountingView : Type 0 where

@@ -46,13 +46,11 @@ fn label_by_digits(first: &[u8], second: &[u8]) -> usize
 // Four bytes as one number, so that they are compared at once.
 #[inline(always)]
 fn joined(ones: u8, twos: u8, threes: u8, fours: u8) -> u32
-    ensures joined { result ≡ ones + twos * 256 + threes * 65536 + fours * 16777216 }
+    ensures joined { result ≡ ones + 256 * (twos + 256 * (threes + 256 * fours)) }
     ensures bytes { (ones < 256) × (twos < 256) × (threes < 256) × (fours < 256) }
 {
     u32::from(ones)
-        + u32::from(twos) * BYTE
-        + u32::from(threes) * (BYTE * BYTE)
-        + u32::from(fours) * (BYTE * BYTE * BYTE)
+        + BYTE * (u32::from(twos) + BYTE * (u32::from(threes) + BYTE * u32::from(fours)))
 }
 
 /// The number of the label of an answer that begins with these two pieces. Most are 201 and 200, so that these are

@@ -5,10 +5,10 @@
 //! clock, and counts requests and times. They are to raise the numbers of `Counters`, which all threads share and which
 //! are added up where they are asked for. What these shared numbers are, no clause says.
 //!
-//! `show_all` serves each caller that it is handed, once and in order, until there will be none any more or the host is
-//! over (`ServesAll`). `Pages` serve one by `show_pages`: each request that is taken is answered once, in order, up to
-//! a write fault, by its method and path. The answer says how some host does, has some numbers, or is 500. Or there is
-//! no memory, and nothing is taken or written. `window_page` writes the counts for Prometheus, in its text format of
+//! `show_all` serves each caller that it is handed, once and in order, until there will be none any more or the server
+//! is over (`ServesAll`). `Pages` serve one by `show_pages`: each request that is taken is answered once, in order, up
+//! to a write fault, by its method and path. The answer says how some host does, has some numbers, or is 500. Or there
+//! is no memory, and nothing is taken or written. `window_page` writes the counts for Prometheus, in its text format of
 //! version 0.0.4. Its contract says every byte: `specs/Texts` has the form of a family of numbers, `specs/Metrics` the
 //! families, and `specs/Routes` those of routes.
 //!
@@ -17,8 +17,9 @@
 //!
 //! `count_session` is a session into an empty sink in memory, whose answers follow from their number alone and whose
 //! counts stand in memory too. Each answer of which a byte was taken is counted once, while its count is below 2^64 -
-//! 1, by its status, of which 15 have a count of their own. The counts add up to the answers of which a byte was taken,
-//! while that is a number of 64 bits (`counts_add_up`).
+//! 1, by its status, of which 15 have a count of their own. `count_replies` is such a session for any list of replies.
+//! Its counts add up to the answers of which a byte was taken, while that is a number of 64 bits (`AddUp`, by
+//! `counts_add_up`).
 //!
 //! The crate knows no booking and no host: it takes nothing but numbers.
 #![tactic(auto)]

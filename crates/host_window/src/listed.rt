@@ -78,7 +78,9 @@ impl Responder for Listed<'_> {
     ghost refuses = { λ now fault text. Stands now text };
 
     fn answer(&mut self, intake: &Intake, request: &Request, last: bool) -> Answer {
-        let _ = (intake, request, last);
+        let _ = intake;
+        let _ = request;
+        let _ = last;
         let answer = self.next();
         self.given = self.given.saturating_add(1);
         answer

@@ -30,9 +30,9 @@ pub(crate) enum Page {
 /// The pages about a host.
 #[derive(Drop)]
 pub struct Pages<'c, R> {
-    pub rt: &'c R,
-    pub alloc: Global,
-    pub counters: &'c Counters,
+    pub(crate) rt: &'c R,
+    pub(crate) alloc: Global,
+    pub(crate) counters: &'c Counters,
 }
 
 // The page of a path, as if by GET.
@@ -50,6 +50,21 @@ fn page_of(method: &[u8], path: &[u8]) -> Page
         Page::Healthz
     } else {
         Page::Metrics
+    }
+}
+
+impl<'c, R> Pages<'c, R> {
+    /// Of the host that counts so.
+    pub fn of(rt: &'c R, alloc: Global, counters: &'c Counters) -> Pages<'c, R>
+        ensures rt { result.rt ≡ rt.entry }
+        ensures alloc { result.alloc ≡ alloc }
+        ensures counters { result.counters ≡ counters.entry }
+    {
+        Pages {
+            rt,
+            alloc,
+            counters,
+        }
     }
 }
 
