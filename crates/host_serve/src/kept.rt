@@ -186,7 +186,7 @@ where
       missed = F.misses shelf.old;
       misses = F.misses shelf.new;
       left = left_of (heard L.told L.faults L.becomes L.hands) C.told T.ticked devices.entry result.listener
-        result.wall;
+          result.wall;
       notes = record {
         before = E.told notes.old;
         failed = E.faults notes.old;
