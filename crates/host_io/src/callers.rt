@@ -1,5 +1,5 @@
 // A port whose callers look through the operator's window.
-ghost use Rattle.std.specs.Prelude.{false, is_some, true};
+ghost use Rattle.std.specs.Prelude.{false, true};
 ghost use Rattle.host_io.specs.Doors.{AsksFor};
 
 use crate::door::Door;
@@ -19,9 +19,7 @@ impl<D: Door + Drop, T: Watch + Copy + Drop, K: Keeper + Copy + Drop> Callers
 
     ghost ends = { λ before after. AsksFor (D.calls before.door) (D.calls after.door) false };
 
-    fn next_caller(&mut self) -> Option<(Self::Input, Self::Output)>
-        ensures asks { AsksFor (D.calls self.old.door) (D.calls self.new.door) (is_some result) }
-    {
+    fn next_caller(&mut self) -> Option<(Self::Input, Self::Output)> {
         let (input, output) = self.next_stream()?;
         Some((ReaderSource::new(input), output))
     }
