@@ -95,7 +95,8 @@ impl<K: Receipt + Drop> Cuts<K> {
     }
 
     /// Waits until the cut of this number is kept, for which it is to wake the committer. Where it is, that is shown of
-    /// it or of a later one. Of false no clause says a cause: it is to come where the journal is lost, or over.
+    /// it or of a later one; of cut 0 nothing is shown. Of false no clause says a cause: it is to come where the
+    /// journal is lost, or over.
     pub fn wait_kept<R: Wait>(&self, rt: &R, cut: u64) -> bool
         ensures { result ≡ true → MayLeave K.kept cut }
     {

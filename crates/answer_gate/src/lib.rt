@@ -11,7 +11,7 @@
 //!
 //! The value under the gate's lock has facts that each call keeps: nobody is inside in the phase in which rows are
 //! looked at, and no cut is kept that wasn't taken. What a call does to that value is said by the clauses of `State`.
-//! Where `wait_kept` finds a cut kept, that one or a later one has what its receipt means.
+//! Where `wait_kept` finds a cut kept, that one or a later one has what its receipt means; of cut 0 nothing is shown.
 //!
 //! No clause of a `Gate` can say what a call did to the value under its lock. That its calls make just those of
 //! `State`, and that whoever sleeps here is woken, is read and tested. What follows of such calls, in whatever order,

@@ -82,7 +82,7 @@ impl Cut {
     }
 }
 
-/// A cut that was taken and isn't kept yet. The gate is open again.
+/// A cut that was taken and wasn't kept by then. The gate was opened again with it.
 pub struct Taken {
     number: u64,
 }

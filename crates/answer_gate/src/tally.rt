@@ -55,7 +55,7 @@ impl<K: Receipt> Tally<K> {
         self.goes_on && self.kept < cut
     }
 
-    /// Whether the cut of this number is kept, which is then shown of it or of a later one.
+    /// Whether the cut of this number is kept, which is then shown of it or of a later one; of cut 0 nothing is shown.
     pub fn has_kept(&self, cut: u64) -> bool
         ensures kept { (result ≡ true) ↔ (cut ≤ self.now.kept) }
         ensures shown { result ≡ true → MayLeave K.kept cut }

@@ -14,7 +14,7 @@ pub fn answers_follow_cuts()
 /// So all that was answered is there again. Take the cuts up to that one, each with all rows that changed since the one
 /// before, and all desks between two calls while the rows were looked at. Books that open with the fold of these cuts
 /// have each booking that the answer showed sealed: as it was sealed, in the phase shown or in one that follows, with
-/// its end where it had one. Or its row serves for a later generation.
+/// its end where it had ended. Or its row serves for a later generation.
 pub fn answers_are_there_again()
     ensures again { AnswersAreThereAgain }
 {}

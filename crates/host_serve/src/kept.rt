@@ -145,9 +145,10 @@ fn end_unread<E: Sink, L>(outcome: ServeOutcome, listener: L, notes: &mut E) -> 
 /// | 3 | the journal couldn't be read, or not be written anew, and nothing was served |
 /// | 4 | the journal failed while its bookings were served, and all connections have ended |
 ///
-/// It is too large from 4,294,967,296 bytes on. All else is as without a journal. Where the devices have somebody who
-/// asks what is in the books, one member more looks. In the wall's history the desks of these further members, which
-/// are the last, only look. Words that name a journal are refused where none is given.
+/// Where it is called too large, it has 4,294,967,296 bytes or more; that each such one is, no clause says. All else is
+/// as without a journal. Where the devices have somebody who asks what is in the books, one member more looks. In the
+/// wall's history the desks of these further members, which are the last, only look. Words that name a journal are
+/// refused where none is given.
 ///
 /// No clause says that what that member saw is kept, nor that the journal has the causes above for another host, for
 /// what couldn't be read or written, and for what failed. Nor that it is there, where it and `--from` are refused

@@ -105,7 +105,8 @@ pub(crate) fn count_session<'c, S: Source, K: Sink, R: Responder, P: Script<R>>(
 }
 
 /// Answers the requests that come with these replies, one after the other, into an empty sink in memory that counts in
-/// memory. Its counts by status are those of the answers of which it has taken a byte, once each, and add up to them.
+/// memory. Its counts by status are those of the answers of which it has taken a byte, once each, and add up to them
+/// where these are fewer than 2^64.
 pub fn count_replies<'c, S: Source, K: Sink + Drop>(
     alloc: Global,
     source: &mut S,
