@@ -23,7 +23,7 @@ use Rattle.refund_core.specs.Releasing.{Releases}
 use Rattle.refund_core.specs.Quotes.{FindsBooking}
 use Rattle.osdm_texts.specs.declared.problem.Problem.TheVariants.{UnknownBooking, TooLate, WrongState, NoMemory}
 use Rattle.osdm_texts.specs.Answers.{Reply, booking, problem, Told, reply_told}
-use Rattle.rail_catalogue.specs.Contents.{CatalogueView}
+use Rattle.catalogue_contents.specs.Contents.{CatalogueView}
 
 -- which steps and replies a call may have, from what a desk has seen to what it has then seen
 abbrev pub Replying : Type 1

@@ -1,6 +1,6 @@
 //! Sweeping all rows for late bookings.
 ghost use Rattle.std.specs.Prelude.{◌≡◌, Ok};
-ghost use Rattle.rail_catalogue.specs.Contents.{CatalogueView};
+ghost use Rattle.catalogue_contents.specs.Contents.{CatalogueView};
 ghost use Rattle.expiry_sweeper.specs.Complete.{LeavesNoneOverdue};
 ghost use Rattle.osdm_texts.specs.Answers.{Reply as Replied, reply_told, told_of};
 ghost use Rattle.shop.specs.Homes.{IsAtHome, StaysHome};

@@ -12,7 +12,7 @@ use Rattle.history_model.specs.declared.phase.EndKind.TheVariants.{Exchange}
 use Rattle.history_model.specs.Allowed.{IsAmountOf}
 use Rattle.claim_rule.specs.Calls.{AddsStepsBy}
 use Rattle.booking_rows.specs.SealedRows.{IsSealedRow}
-use Rattle.rail_catalogue.specs.Contents.{CatalogueView}
+use Rattle.catalogue_contents.specs.Contents.{CatalogueView}
 use Rattle.offer_codes.specs.Exchanges.{ExchangeView}
 use Rattle.refund_core.specs.Quotes.{FindsBooking, phase_named, is_stale}
 use Rattle.exchange_core.specs.declared.readying.Readied.TheVariants as readied

@@ -7,7 +7,7 @@ ghost use Rattle.exchange_core.specs.Exchanges.{difference_at as difference_of};
 use booking_rows::RowView;
 use offer_codes::OfferCode;
 use offer_prices::price_of_offer;
-use rail_catalogue::Catalogue;
+use catalogue_contents::Catalogue;
 use rail_time::Moment;
 use refund_core::refund_at;
 use tariff::exchange_difference;

@@ -14,7 +14,7 @@ use crate::differences::difference_at;
 use claim_rule::{Books, Desk};
 use history_model::phase::Phase;
 use offer_codes::{ExchangeCode, OfferCode};
-use rail_catalogue::Catalogue;
+use catalogue_contents::Catalogue;
 use rail_ids::{RetailerNo, RowNo};
 use rail_time::Moment;
 use refund_core::{find_booking, is_collected};

@@ -1,6 +1,6 @@
 -- Why no books open with the export of a journal.
 use Rattle.std.proofs.Common.{ℕ, List}
-use Rattle.rail_catalogue.specs.Contents.{CatalogueView, legs_in}
+use Rattle.catalogue_contents.specs.Contents.{CatalogueView, legs_in}
 use Rattle.cold_store.specs.Imports.{IsImportFault}
 use Rattle.cold_store.specs.declared.fault.ImportFault.{ImportFault}
 use Rattle.cold_store.specs.declared.fault.ImportFault.TheVariants as fault

@@ -3,7 +3,7 @@ use Rattle.std.proofs.Common.{◌≡◌, ◌≤◌, ℕ, List, [], map, refl, sy
 use Rattle.std.specs.Prelude.{Result, Ok, Err, IfErr, IfOk, IsErrAnd}
 use Rattle.history_model.specs.Booking.{Layout, most_rows}
 use Rattle.history_model.specs.Laws.{IsOpening}
-use Rattle.rail_catalogue.specs.Contents.{CatalogueView, legs_in}
+use Rattle.catalogue_contents.specs.Contents.{CatalogueView, legs_in}
 use Rattle.booking_rows.specs.SealedRows.{FitWords}
 use Rattle.claim_rule.specs.Openings.{KeptBooking, layout_with}
 use Rattle.claim_rule.specs.Out.{IsTidy}

@@ -1,7 +1,7 @@
 -- What was read of the text that a shelf gave.
 use Rattle.std.proofs.Common.{ℕ, List}
 use Rattle.std.specs.Prelude.{Result, Ok, Err}
-use Rattle.rail_catalogue.specs.Contents.{CatalogueView}
+use Rattle.catalogue_contents.specs.Contents.{CatalogueView}
 use Rattle.host_catalogue.specs.Files.{Files, IsTextOf}
 use Rattle.host_catalogue.specs.Loading.{Loads, Reads}
 use Rattle.host_catalogue.specs.declared.file.File.TheVariants.{Catalogue}

@@ -2,7 +2,7 @@
 use Rattle.std.proofs.Common.{◌≡◌, ◌≤◌, ◌<◌, ℕ, List, Option, Some, None, length, refl, sym, ◌∙◌, ap, subst, arith, inl, inr}
 use Rattle.std.specs.Prelude.{◌⊎◌, IfSome, IsSomeAnd, Ok, Err}
 use Rattle.rail_io.specs.Faults.{Rose}
-use Rattle.rail_catalogue.specs.Contents.{CatalogueView}
+use Rattle.catalogue_contents.specs.Contents.{CatalogueView}
 use Rattle.rail_catalogue.specs.Faults.{Fault, fault_of}
 use Rattle.rail_catalogue.specs.Format.{catalogue_of}
 use Rattle.claim_rule.specs.Openings.{KeptBooking}

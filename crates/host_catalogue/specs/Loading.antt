@@ -1,6 +1,6 @@
 -- The catalogue of a command's file.
 use Rattle.std.specs.Prelude.{◌≡◌, ◌⊎◌, ⊤, ℕ, List, Option, None, IfSome, IsSomeAnd, Result, Ok, Err}
-use Rattle.rail_catalogue.specs.Contents.{CatalogueView}
+use Rattle.catalogue_contents.specs.Contents.{CatalogueView}
 use Rattle.rail_catalogue.specs.Faults.{Fault, fault_of}
 use Rattle.rail_catalogue.specs.Format.{catalogue_of}
 use Rattle.rail_catalogue.specs.declared.fault.CatalogueFault.{CatalogueFault}

@@ -1,6 +1,6 @@
 -- The books that a command begins with: those of its catalogue, with no booking or with those of an export.
 use Rattle.std.specs.Prelude.{◌≡◌, ◌⊎◌, ℕ, List, [], map, Option, Some, None, IfSome, Ok, Err, option_map}
-use Rattle.rail_catalogue.specs.Contents.{CatalogueView, legs_in}
+use Rattle.catalogue_contents.specs.Contents.{CatalogueView, legs_in}
 use Rattle.booking_rows.specs.SealedRows.{FitWords}
 use Rattle.claim_rule.specs.Openings.{KeptBooking, MayOpen, layout_with}
 use Rattle.claim_rule.specs.Out.{IsTidy}

@@ -14,7 +14,7 @@ use crate::opening::import_text;
 use claim_rule::{Books, Desk};
 use cold_store::ImportFault;
 use journal_text::{Folded, JournalFault, fold};
-use rail_catalogue::Catalogue;
+use catalogue_contents::Catalogue;
 use rail_io::Shelf;
 use row_cuts::print_of;
 use std::alloc::{AllocError, Global};

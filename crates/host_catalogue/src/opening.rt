@@ -5,7 +5,7 @@ ghost use Rattle.claim_rule.specs.Desks.{IsNew, IsOf};
 ghost use Rattle.claim_rule.specs.Out.{IsTidy};
 ghost use Rattle.booking_rows.specs.SealedRows.{FitWords};
 ghost use Rattle.cold_store.specs.Imports.{IsImportFault};
-ghost use Rattle.rail_catalogue.specs.Contents.{legs_in};
+ghost use Rattle.catalogue_contents.specs.Contents.{legs_in};
 ghost use Rattle.host_catalogue.specs.Files.{HasCause, IsTextOf, OfCounts};
 ghost use Rattle.host_catalogue.specs.declared.file.File.TheVariants.{Export};
 ghost use Rattle.host_catalogue.specs.Opening.{BeginsWith, Fails, HasBooks, IsNotImported, IsNotOpened, IsOpened};
@@ -15,7 +15,7 @@ use crate::file::{File, LoadFault, fetch_text};
 use crate::load::load_catalogue;
 use claim_rule::{Books, Desk, start_books};
 use cold_store::{ImportFault, import_books};
-use rail_catalogue::Catalogue;
+use catalogue_contents::Catalogue;
 use rail_io::Shelf;
 use std::alloc::{AllocError, Global};
 

@@ -9,7 +9,7 @@ use Rattle.train_runs.specs.declared.run.Stop.{Stop}
 use Rattle.train_runs.specs.Stations.{StationView}
 use Rattle.train_runs.specs.Runs.{RunsView}
 use Rattle.rail_catalogue.specs.Coaches.{coaches_from}
-use Rattle.rail_catalogue.specs.Contents.{CatalogueView}
+use Rattle.catalogue_contents.specs.Contents.{CatalogueView}
 use Rattle.rail_catalogue.specs.Faults.{Fault, after}
 use Rattle.rail_catalogue.specs.Format.{NetworkView, with_item, contents_of}
 use Rattle.host_drill.specs.Generator.{drill_rows}

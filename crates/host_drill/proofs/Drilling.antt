@@ -9,7 +9,7 @@ use Rattle.history_model.specs.Laws.{NoDouble}
 use Rattle.history_model.proofs.Legal.{NoDouble-from_WellFormed, WellFormed-history}
 use Rattle.claim_rule.specs.Rule.{DeskView, IsWhole}
 use Rattle.claim_rule.specs.Walls.{WallView, Finishes}
-use Rattle.rail_catalogue.specs.Contents.{CatalogueView}
+use Rattle.catalogue_contents.specs.Contents.{CatalogueView}
 use Rattle.host_words.specs.declared.drill.DrillWords.{DrillWords}
 use Rattle.host_drill.specs.Totals.{sold_of}
 use Rattle.host_drill.specs.Meeting.{AreAnswered, IsFirst}

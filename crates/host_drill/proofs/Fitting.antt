@@ -7,7 +7,7 @@ use Rattle.place_map.specs.Places.{run_number}
 use Rattle.train_runs.specs.Stations.{station_with}
 use Rattle.train_runs.specs.Stops.{legs_of}
 use Rattle.train_runs.specs.Runs.{span_of}
-use Rattle.rail_catalogue.specs.Contents.{CatalogueView, place_legs}
+use Rattle.catalogue_contents.specs.Contents.{CatalogueView, place_legs}
 use Rattle.rail_catalogue.specs.Faults.{Fault, fault_of}
 use Rattle.rail_catalogue.specs.Format.{catalogue_of, contents_in}
 use Rattle.rail_catalogue.specs.declared.fault.CatalogueFault.{CatalogueFault}

@@ -22,7 +22,7 @@ use Rattle.booking_rows.specs.declared.notes.Detail.{Detail}
 use Rattle.booking_rows.specs.Notes.{detail_notes}
 use Rattle.rail_ids.specs.declared.RowNo.{RowNo}
 use Rattle.booking_rows.specs.Starts.{Misses, misses_steps, Passed, search_steps, StartsHold, IsLeastFree}
-use Rattle.rail_catalogue.specs.Contents.{CatalogueView}
+use Rattle.catalogue_contents.specs.Contents.{CatalogueView}
 use Rattle.hold_core.specs.declared.tries.Outcome.{Outcome as TryOutcome}
 use Rattle.hold_core.specs.declared.tries.Outcome.TheVariants as outcome
 use Rattle.hold_core.specs.declared.adds.Added.{Added}

@@ -12,7 +12,7 @@ use Rattle.train_runs.specs.Stops.{RunView}
 use Rattle.train_runs.specs.Runs.{span_of}
 use Rattle.host_drill.specs.Parts.{on_leg}
 use Rattle.claim_rule.specs.Rule.{DeskView}
-use Rattle.rail_catalogue.specs.Contents.{CatalogueView}
+use Rattle.catalogue_contents.specs.Contents.{CatalogueView}
 use Rattle.osdm_texts.specs.declared.problem.Problem.{Problem}
 use Rattle.osdm_texts.specs.declared.problem.Problem.TheVariants.{NoMemory}
 use Rattle.osdm_texts.specs.declared.field.FieldName.TheVariants.{Run, From, To}

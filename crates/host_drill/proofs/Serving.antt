@@ -9,7 +9,7 @@ use Rattle.history_model.specs.History.{own}
 use Rattle.claim_rule.specs.Rule.{BooksView, DeskView}
 use Rattle.claim_rule.specs.Desks.{IsOf}
 use Rattle.claim_rule.specs.Out.{IsIdle}
-use Rattle.rail_catalogue.specs.Contents.{CatalogueView}
+use Rattle.catalogue_contents.specs.Contents.{CatalogueView}
 use Rattle.rail_service.specs.Connections.{ServiceView, HasServed, IsServed}
 use Rattle.host_words.specs.declared.drill.DrillWords.{DrillWords}
 use Rattle.host_drill.specs.Generator.{requests_of}

@@ -5,7 +5,7 @@ use Rattle.history_model.specs.declared.entry.Entry.{Entry}
 use Rattle.history_model.specs.declared.entry.Step.TheVariants.{Met}
 use Rattle.history_model.specs.History.{IsLegal, own, state_of}
 use Rattle.claim_rule.specs.Rule.{DeskView}
-use Rattle.rail_catalogue.specs.Contents.{CatalogueView}
+use Rattle.catalogue_contents.specs.Contents.{CatalogueView}
 use Rattle.osdm_texts.specs.Answers.{Reply}
 use Rattle.host_words.specs.declared.drill.DrillWords.{DrillWords}
 use Rattle.host_drill.specs.Meeting.{AreAll, IsOneOf}

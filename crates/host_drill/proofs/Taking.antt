@@ -9,7 +9,7 @@ use Rattle.std.specs.List.{AllByRecursion}
 use Rattle.claim_rule.specs.Rule.{BooksView, DeskView}
 use Rattle.claim_rule.specs.Desks.{HasMet, IsNew, IsOf}
 use Rattle.claim_rule.specs.Out.{IsIdle}
-use Rattle.rail_catalogue.specs.Contents.{CatalogueView}
+use Rattle.catalogue_contents.specs.Contents.{CatalogueView}
 use Rattle.host_words.specs.declared.drill.DrillWords.{DrillWords}
 use Rattle.host_drill.specs.Meeting.{AreAnswered, EachAt, IsFirst}
 use Rattle.host_drill.specs.Totals.{times, refused_line, no_memory_line, busy_line}

@@ -7,7 +7,7 @@ use Rattle.http_wire.proofs.OnceLemmas.{spells_once}
 use Rattle.http_wire.proofs.StreamLemmas.{closed_longer}
 use Rattle.session_loop.specs.Session.{Chain, IsAnswered, IsEnd}
 use Rattle.claim_rule.specs.Rule.{DeskView}
-use Rattle.rail_catalogue.specs.Contents.{CatalogueView}
+use Rattle.catalogue_contents.specs.Contents.{CatalogueView}
 use Rattle.osdm_texts.specs.Answers.{Reply}
 use Rattle.rail_service.specs.Connections.{ServiceView, IsAnswer, IsReading, answers_of, refusals_of}
 use Rattle.host_drill.specs.Generator.{drill_leg, requests_from}

@@ -9,7 +9,7 @@ use Rattle.history_model.specs.History.{own}
 use Rattle.claim_rule.specs.Rule.{BooksView, DeskView}
 use Rattle.claim_rule.specs.Desks.{IsOf}
 use Rattle.claim_rule.specs.Out.{IsIdle}
-use Rattle.rail_catalogue.specs.Contents.{CatalogueView, legs_in}
+use Rattle.catalogue_contents.specs.Contents.{CatalogueView, legs_in}
 use Rattle.rail_service.specs.Connections.{ServiceView, HasServed, IsServed}
 use Rattle.host_drill.specs.Generator.{requests_of}
 use Rattle.host_drill.specs.declared.connection.Connection.{Connection}

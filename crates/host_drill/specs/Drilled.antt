@@ -12,7 +12,7 @@ use Rattle.claim_rule.specs.Rule.{BooksView, DeskView}
 use Rattle.claim_rule.specs.Desks.{IsOf}
 use Rattle.claim_rule.specs.Out.{IsIdle}
 use Rattle.claim_rule.specs.Walls.{WallView, Finishes}
-use Rattle.rail_catalogue.specs.Contents.{CatalogueView}
+use Rattle.catalogue_contents.specs.Contents.{CatalogueView}
 use Rattle.rail_catalogue.specs.Format.{catalogue_of}
 use Rattle.host_words.specs.declared.drill.DrillWords.{DrillWords}
 use Rattle.host_drill.specs.Generator.{catalogue_text}

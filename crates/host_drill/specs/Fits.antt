@@ -5,8 +5,8 @@ use Rattle.place_map.specs.Candidates.{candidates_of}
 use Rattle.place_map.specs.declared.coach.Class.TheVariants.{Second}
 use Rattle.train_runs.specs.Stations.{station_with}
 use Rattle.train_runs.specs.Runs.{RunsView, span_of}
-use Rattle.rail_catalogue.specs.Contents.{CatalogueView, legs_in}
-use Rattle.rail_catalogue.specs.Retailers.{retailer_with}
+use Rattle.catalogue_contents.specs.Contents.{CatalogueView, legs_in}
+use Rattle.catalogue_contents.specs.Retailers.{retailer_with}
 use Rattle.hold_core.specs.Tries.{place_number}
 use Rattle.host_drill.specs.Generator.{digit, drill_legs, drill_rows}
 use Rattle.host_drill.specs.Parts.{on_leg}

@@ -1,12 +1,12 @@
 // One connection of a drill.
 ghost use Rattle.std.specs.Prelude.{◌≡◌};
-ghost use Rattle.rail_catalogue.specs.Contents.{legs_in};
+ghost use Rattle.catalogue_contents.specs.Contents.{legs_in};
 ghost use Rattle.claim_rule.specs.Desks.{IsOf};
 ghost use Rattle.claim_rule.specs.Out.{IsIdle};
 ghost use Rattle.host_drill.specs.Connections.{Serves};
 
 use claim_rule::{Books, Desk};
-use rail_catalogue::Catalogue;
+use catalogue_contents::Catalogue;
 use rail_io::{BytesSource, ScriptClock, VecSink};
 use rail_service::serve_connection;
 use session_loop::ConnEnd;

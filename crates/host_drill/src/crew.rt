@@ -3,7 +3,7 @@ ghost use Rattle.std.specs.Prelude.{◌≡◌, ◌≢◌, ◌≤◌, ◌<◌, �
 ghost use Rattle.rail_io.specs.Memory.{source_left, sink_taken};
 ghost use Rattle.history_model.specs.declared.entry.Step.TheVariants.{Met};
 ghost use Rattle.history_model.specs.History.{entry, own};
-ghost use Rattle.rail_catalogue.specs.Contents.{legs_in};
+ghost use Rattle.catalogue_contents.specs.Contents.{legs_in};
 ghost use Rattle.session_loop.specs.declared.end.ConnEnd.TheVariants.{Done};
 ghost use Rattle.claim_rule.specs.Desks.{HasMet, IsNew, IsOf};
 ghost use Rattle.claim_rule.specs.Out.{IsIdle};
@@ -17,7 +17,7 @@ use crate::counts::count_times;
 use crate::generator::worker_requests;
 use claim_rule::{Books, Desk};
 use host_words::DrillWords;
-use rail_catalogue::Catalogue;
+use catalogue_contents::Catalogue;
 use rail_io::{BytesSource, ScriptClock, VecSink};
 use rail_time::Moment;
 use session_loop::ConnEnd;

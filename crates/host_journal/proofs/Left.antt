@@ -4,7 +4,7 @@ use Rattle.std.specs.Prelude.{IfSome}
 use Rattle.claim_rule.specs.Openings.{KeptBooking}
 use Rattle.claim_rule.specs.Rule.{BooksView, DeskView}
 use Rattle.history_model.specs.Booking.{Layout}
-use Rattle.rail_catalogue.specs.Contents.{CatalogueView, legs_in}
+use Rattle.catalogue_contents.specs.Contents.{CatalogueView, legs_in}
 use Rattle.rail_io.specs.Journals.{Opens}
 use Rattle.rail_io.specs.declared.journal.JournalOpened.TheVariants.{Missing, Text, TooLarge}
 use Rattle.host_catalogue.specs.Files.{Files, most_of}

@@ -2,7 +2,7 @@
 use Rattle.std.specs.Prelude.{◌≡◌, ◌⊎◌, ◌<◌, ℕ, List, [], Option, None, IfSome}
 use Rattle.std.specs.Prelude.{length, map}
 use Rattle.claim_rule.specs.Openings.{KeptBooking}
-use Rattle.rail_catalogue.specs.Contents.{CatalogueView, legs_in}
+use Rattle.catalogue_contents.specs.Contents.{CatalogueView, legs_in}
 use Rattle.cold_store.specs.Lines.{SaidBooking}
 use Rattle.cold_store.specs.Right.{kept_of}
 use Rattle.journal_text.specs.Folds.{FoldView}

@@ -20,7 +20,7 @@ use crate::opened::Opened;
 use answer_gate::Cuts;
 use host_catalogue::{JournalRefusal, LoadFault, fold_books, import_from, open_books};
 use host_words::ServeWords;
-use rail_catalogue::Catalogue;
+use catalogue_contents::Catalogue;
 use rail_io::{Journal, JournalOpened, Shelf};
 use row_cuts::{export_rows, print_of};
 use std::alloc::{AllocError, Global};

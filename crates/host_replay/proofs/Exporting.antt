@@ -14,7 +14,7 @@ use Rattle.claim_rule.specs.Rule.{DeskView}
 use Rattle.osdm_texts.specs.declared.problem.Problem.TheVariants.{NoMemory}
 use Rattle.osdm_texts.specs.Problems.{problem_tree}
 use Rattle.osdm_texts.specs.Answers.{problem}
-use Rattle.rail_catalogue.specs.Contents.{CatalogueView}
+use Rattle.catalogue_contents.specs.Contents.{CatalogueView}
 use Rattle.rail_service.specs.Bytes.{reply_bytes}
 use Rattle.rail_service.specs.Connections.{answers_of, refusals_of, ServiceView}
 use Rattle.rail_service.specs.OneThread.{PlainView, plain_view, plain_answers_of, plain_refusals_of}

@@ -25,7 +25,7 @@ use Rattle.cold_store.specs.Tidy.{AreSucceeded, IsTidyWall}
 use Rattle.lone_desk.specs.Lone.{IsAlone}
 use Rattle.plain_host.specs.Settled.{IsEmptyRow, IsSettled, IsStanding}
 use Rattle.plain_host.proofs.OwnWork.{alone_is_lone, alone_settles}
-use Rattle.rail_catalogue.specs.Contents.{CatalogueView}
+use Rattle.catalogue_contents.specs.Contents.{CatalogueView}
 use Rattle.rail_service.specs.Connections.{ServiceView, HasServed, IsServed}
 use Rattle.host_catalogue.specs.Opening.{IsOpened}
 use Rattle.host_words.specs.Replay.{ReplayView}

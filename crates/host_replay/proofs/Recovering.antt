@@ -4,7 +4,7 @@ use Rattle.std.specs.Prelude.{◌⊎◌, Ok, codes}
 use Rattle.rail_io.specs.Faults.{Rose}
 use Rattle.rail_io.specs.Told.{with_end}
 use Rattle.session_loop.specs.Writes.{Writes}
-use Rattle.rail_catalogue.specs.Contents.{CatalogueView}
+use Rattle.catalogue_contents.specs.Contents.{CatalogueView}
 use Rattle.rail_catalogue.specs.Format.{catalogue_of}
 use Rattle.claim_rule.specs.Openings.{KeptBooking}
 use Rattle.journal_text.specs.Folds.{FoldView}

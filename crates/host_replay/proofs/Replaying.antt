@@ -13,7 +13,7 @@ use Rattle.history_model.specs.History.{state_of}
 use Rattle.claim_rule.specs.Openings.{KeptBooking}
 use Rattle.claim_rule.specs.Rule.{DeskView}
 use Rattle.rail_io.specs.Clocks.{script_reading}
-use Rattle.rail_catalogue.specs.Contents.{CatalogueView, legs_in}
+use Rattle.catalogue_contents.specs.Contents.{CatalogueView, legs_in}
 use Rattle.plain_host.specs.Plain.{Plain}
 use Rattle.plain_host.specs.PlainOf.{plain_in}
 use Rattle.plain_host.proofs.Kept.{plain_begun}

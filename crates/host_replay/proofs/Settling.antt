@@ -19,7 +19,7 @@ use Rattle.claim_rule.specs.Rule.{BooksView, DeskView, IsWhole}
 use Rattle.claim_rule.specs.Desks.{IsNew}
 use Rattle.claim_rule.specs.Walls.{Finishes, WallView}
 use Rattle.settle_report.specs.Accounts.{IsSettled, NoneEnding, kept_on}
-use Rattle.rail_catalogue.specs.Contents.{CatalogueView, legs_in}
+use Rattle.catalogue_contents.specs.Contents.{CatalogueView, legs_in}
 use Rattle.host_words.specs.Settle.{IsSettle}
 use Rattle.host_catalogue.specs.Files.{Files}
 use Rattle.host_catalogue.specs.Opening.{HasBooks, HasNoBooks, IsOpened, IsRefusedFile, LacksBooks}

@@ -6,7 +6,7 @@ use Rattle.session_loop.specs.declared.end.ConnEnd.TheVariants.{NoMemory}
 use Rattle.claim_rule.specs.Openings.{KeptBooking, MayOpen, layout_with}
 use Rattle.claim_rule.specs.Rule.{DeskView}
 use Rattle.claim_rule.specs.Desks.{IsNew}
-use Rattle.rail_catalogue.specs.Contents.{CatalogueView, legs_in}
+use Rattle.catalogue_contents.specs.Contents.{CatalogueView, legs_in}
 use Rattle.rail_service.specs.Connections.{ServiceView, IsServed}
 use Rattle.rail_service.specs.OneThread.{PlainView}
 use Rattle.plain_host.specs.PlainOf.{plain_kept}

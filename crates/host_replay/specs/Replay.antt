@@ -7,7 +7,7 @@ use Rattle.session_loop.specs.declared.end.ConnEnd.{ConnEnd}
 use Rattle.session_loop.specs.Session.{IsAnswered, IsCutShort}
 use Rattle.claim_rule.specs.Openings.{KeptBooking}
 use Rattle.claim_rule.specs.Rule.{DeskView}
-use Rattle.rail_catalogue.specs.Contents.{CatalogueView}
+use Rattle.catalogue_contents.specs.Contents.{CatalogueView}
 use Rattle.rail_service.specs.Connections.{ServiceView, answers_of, refusals_of}
 use Rattle.rail_service.specs.OneThread.{PlainView, plain_answers_of, plain_refusals_of}
 use Rattle.host_catalogue.specs.Files.{Files}

@@ -7,7 +7,7 @@ use Rattle.claim_rule.specs.Openings.{KeptBooking, layout_with}
 use Rattle.claim_rule.specs.Walls.{WallView}
 use Rattle.settle_report.specs.Accounts.{kept_on}
 use Rattle.settle_report.specs.Table.{IsSettlement}
-use Rattle.rail_catalogue.specs.Contents.{CatalogueView, legs_in}
+use Rattle.catalogue_contents.specs.Contents.{CatalogueView, legs_in}
 use Rattle.host_words.specs.Settle.{IsSettle}
 use Rattle.host_catalogue.specs.Files.{Files, HasCause}
 use Rattle.host_catalogue.specs.Opening.{Fails, HasBooks, IsRefusedFile, LacksBooks}

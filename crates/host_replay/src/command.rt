@@ -24,7 +24,7 @@ use crate::end::{ReplayEnd, command_end};
 use claim_rule::{Books, Desk};
 use host_catalogue::{CommandEnd, end_command, load_books};
 use host_words::{ReplayWords, WordsFault, read_replay};
-use rail_catalogue::Catalogue;
+use catalogue_contents::Catalogue;
 use rail_io::{ScriptClock, Shelf, Sink, Source};
 use rail_service::serve_connection;
 use session_loop::ConnEnd;

@@ -32,7 +32,7 @@ use cold_store::export_tidy;
 use host_catalogue::{CommandEnd, end_command, load_books};
 use host_words::{ReplayWords, WordsFault, read_export};
 use memchr::memmem;
-use rail_catalogue::Catalogue;
+use catalogue_contents::Catalogue;
 use rail_io::{ScriptClock, Shelf, Sink, Source, VecSink};
 use rail_service::serve_connection;
 use session_loop::{ConnEnd, write_all};

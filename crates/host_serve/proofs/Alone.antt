@@ -4,7 +4,7 @@ use Rattle.std.specs.Prelude.{IfSome, IsSomeAnd, MatchOption}
 use Rattle.claim_rule.specs.Walls.{WallView}
 use Rattle.claim_rule.specs.Openings.{KeptBooking, layout_with}
 use Rattle.history_model.specs.Booking.{Layout}
-use Rattle.rail_catalogue.specs.Contents.{CatalogueView, legs_in}
+use Rattle.catalogue_contents.specs.Contents.{CatalogueView, legs_in}
 use Rattle.host_words.specs.Serve.{ServeView}
 use Rattle.host_words.specs.declared.serve.Serving.{Serving}
 use Rattle.host_catalogue.specs.Files.{Files}

@@ -3,7 +3,7 @@ use Rattle.std.proofs.Common.{◌≡◌, List, subst, sym}
 use Rattle.std.specs.Prelude.{IsSomeAnd}
 use Rattle.history_model.specs.Booking.{Layout}
 use Rattle.claim_rule.specs.Openings.{KeptBooking, layout_with}
-use Rattle.rail_catalogue.specs.Contents.{CatalogueView, legs_in}
+use Rattle.catalogue_contents.specs.Contents.{CatalogueView, legs_in}
 use Rattle.host_catalogue.specs.Files.{Files}
 use Rattle.host_catalogue.specs.Opening.{HasBooks}
 use Rattle.host_words.specs.Serve.{ServeView}

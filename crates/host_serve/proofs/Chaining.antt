@@ -10,7 +10,7 @@ use Rattle.history_model.proofs.ListLemmas.{All-append}
 use Rattle.claim_rule.specs.Calls.{AddsStepsBy}
 use Rattle.claim_rule.specs.Out.{AllLooks, is_look}
 use Rattle.claim_rule.specs.Rule.{DeskView}
-use Rattle.rail_catalogue.specs.Contents.{CatalogueView}
+use Rattle.catalogue_contents.specs.Contents.{CatalogueView}
 use Rattle.rail_service.specs.Listeners.{Handing}
 use Rattle.worker_pool.specs.Turns.{GoesOn, RunsToEnd}
 use Rattle.host_words.specs.declared.serve.Serving.{Serving as Numbers}

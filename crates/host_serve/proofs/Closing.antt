@@ -18,7 +18,7 @@ use Rattle.worker_pool.specs.Turns.{KeepsDesk}
 use Rattle.worker_pool.specs.declared.member.Member.{Member}
 use Rattle.worker_pool.proofs.Chains.{keeps_on}
 use Rattle.cold_store.specs.Tidy.{AreSucceeded, IsTidyWall}
-use Rattle.rail_catalogue.specs.Contents.{CatalogueView}
+use Rattle.catalogue_contents.specs.Contents.{CatalogueView}
 use Rattle.host_words.specs.declared.serve.Serving.{Serving}
 use Rattle.host_serve.specs.declared.member.Post.{Post}
 use Rattle.host_serve.specs.Crews.{OnlyMet, AreReady, IsCrew, HasMetAll, HasRun, Held, of_member, sum_below}

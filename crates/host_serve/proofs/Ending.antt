@@ -4,7 +4,7 @@ use Rattle.std.specs.Prelude.{IsSomeAnd}
 use Rattle.rail_io.specs.Faults.{Rose}
 use Rattle.claim_rule.specs.Walls.{WallView}
 use Rattle.claim_rule.specs.Openings.{KeptBooking}
-use Rattle.rail_catalogue.specs.Contents.{CatalogueView}
+use Rattle.catalogue_contents.specs.Contents.{CatalogueView}
 use Rattle.host_catalogue.specs.Files.{Files}
 use Rattle.host_catalogue.specs.Opening.{HasBooks, HasNoBooks}
 use Rattle.host_catalogue.specs.declared.file.LoadFault.TheVariants as load

@@ -9,7 +9,7 @@ use Rattle.cold_store.specs.Exports.{IsClosed, text_on}
 use Rattle.cold_store.specs.Tidy.{IsTidyWall}
 use Rattle.claim_rule.specs.Openings.{layout_with}
 use Rattle.history_model.specs.Booking.{Layout}
-use Rattle.rail_catalogue.specs.Contents.{CatalogueView, legs_in}
+use Rattle.catalogue_contents.specs.Contents.{CatalogueView, legs_in}
 use Rattle.host_catalogue.specs.Files.{Files}
 use Rattle.host_catalogue.specs.declared.file.LoadFault.{LoadFault}
 use Rattle.host_catalogue.specs.declared.file.LoadFault.TheVariants as load

@@ -5,7 +5,7 @@ use Rattle.history_model.specs.declared.entry.Entry.{Entry}
 use Rattle.history_model.specs.Booking.{Layout}
 use Rattle.claim_rule.specs.Rule.{BooksView}
 use Rattle.claim_rule.specs.Walls.{WallView}
-use Rattle.rail_catalogue.specs.Contents.{CatalogueView}
+use Rattle.catalogue_contents.specs.Contents.{CatalogueView}
 use Rattle.rail_service.specs.Listeners.{Handing, ListenerView}
 use Rattle.host_words.specs.declared.serve.Serving.{Serving}
 use Rattle.host_serve.specs.Turns.{Readings, Stand, Leads, Chain, Connection, ConnectionBy, HandedOut, Passed, Passing}

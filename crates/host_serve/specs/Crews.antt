@@ -10,7 +10,7 @@ use Rattle.claim_rule.specs.Desks.{IsOf}
 use Rattle.claim_rule.specs.Out.{IsTidy}
 use Rattle.worker_pool.specs.Turns.{Doing, KeepsDesk, RunsToEnd, EachMember}
 use Rattle.worker_pool.specs.declared.member.Member.{Member}
-use Rattle.rail_catalogue.specs.Contents.{CatalogueView}
+use Rattle.catalogue_contents.specs.Contents.{CatalogueView}
 use Rattle.host_words.specs.declared.serve.Serving.{Serving}
 use Rattle.host_serve.specs.Turns.{HasClock, IsPosted, Readings, clock_of, handed_of}
 use Rattle.host_serve.specs.declared.member.Post.{Post}

@@ -13,7 +13,7 @@ use Rattle.claim_rule.specs.Out.{is_look}
 use Rattle.claim_rule.specs.Walls.{WallView, Finishes}
 use Rattle.cold_store.specs.Exports.{IsClosed}
 use Rattle.cold_store.specs.Tidy.{IsTidyWall}
-use Rattle.rail_catalogue.specs.Contents.{CatalogueView, legs_in}
+use Rattle.catalogue_contents.specs.Contents.{CatalogueView, legs_in}
 use Rattle.rail_service.specs.Listeners.{Handing, HandingBy, ListenerView}
 use Rattle.host_words.specs.Serve.{ServeView, serve_words}
 use Rattle.host_words.specs.declared.serve.Serving.{Serving}

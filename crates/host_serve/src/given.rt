@@ -3,7 +3,7 @@ ghost use Rattle.std.specs.Prelude.{◌≡◌, ◌≤◌, ◌+◌, ℕ, List, No
 ghost use Rattle.claim_rule.specs.Openings.{KeptBooking, layout_with};
 ghost use Rattle.cold_store.specs.Exports.{IsClosed};
 ghost use Rattle.cold_store.specs.Tidy.{AreSucceeded, IsTidyWall};
-ghost use Rattle.rail_catalogue.specs.Contents.{legs_in};
+ghost use Rattle.catalogue_contents.specs.Contents.{legs_in};
 ghost use Rattle.host_words.specs.Limits.{clock_count};
 ghost use Rattle.host_words.specs.Said.{said_in};
 ghost use Rattle.host_words.specs.Serve.{IsInRange};
@@ -28,7 +28,7 @@ use claim_rule::{Books, Desk};
 use host_catalogue::{LoadFault, load_books, load_catalogue};
 use host_journal::{Committer, Either, Keeping, KeptOutcome, Opened, ServeOutcome, open_journal};
 use host_words::ServeWords;
-use rail_catalogue::Catalogue;
+use catalogue_contents::Catalogue;
 use rail_io::{Bell, Clock, Journal, Shelf, Ticker};
 use rail_service::Listener;
 use std::alloc::{AllocError, Global};

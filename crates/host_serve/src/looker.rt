@@ -8,7 +8,7 @@ ghost use Rattle.host_serve.specs.Serve.{some_count};
 use claim_rule::{Books, Desk};
 use host_journal::Watcher;
 use host_window::{Findings, Found};
-use rail_catalogue::Catalogue;
+use catalogue_contents::Catalogue;
 use row_cuts::{SoldCount, count_rows, count_sold};
 use std::sync::Wait;
 use worker_pool::TurnEnd;

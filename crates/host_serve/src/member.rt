@@ -9,7 +9,7 @@ use claim_rule::{Books, Desk};
 use host_journal::{Lookout, Watcher};
 use host_window::Findings;
 use host_words::Serving;
-use rail_catalogue::Catalogue;
+use catalogue_contents::Catalogue;
 use rail_io::{Clock, Ticker};
 use rail_service::Listener;
 use std::alloc::Global;

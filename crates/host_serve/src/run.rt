@@ -6,7 +6,7 @@ ghost use Rattle.rail_io.specs.Told.{with_end};
 ghost use Rattle.claim_rule.specs.Openings.{KeptBooking, layout_with};
 ghost use Rattle.cold_store.specs.Exports.{text_on};
 ghost use Rattle.cold_store.specs.Tidy.{AreSucceeded};
-ghost use Rattle.rail_catalogue.specs.Contents.{legs_in};
+ghost use Rattle.catalogue_contents.specs.Contents.{legs_in};
 ghost use Rattle.host_words.specs.Limits.{clock_count};
 ghost use Rattle.host_words.specs.Options.{words_texts};
 ghost use Rattle.host_words.specs.Said.{said_in};

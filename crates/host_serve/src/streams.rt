@@ -4,7 +4,7 @@ ghost use Rattle.rail_service.specs.Listeners.{HandingBy, IsGiven};
 ghost use Rattle.rail_service.specs.Connections.{ServiceView};
 ghost use Rattle.session_loop.specs.Writes.{showing};
 ghost use Rattle.rail_service.specs.Moments.{AnyCut, PermitsReplies};
-ghost use Rattle.rail_catalogue.specs.Contents.{CatalogueView};
+ghost use Rattle.catalogue_contents.specs.Contents.{CatalogueView};
 ghost use Rattle.host_serve.specs.Turns.{LettingGo};
 
 use crate::letting::drop_stream;

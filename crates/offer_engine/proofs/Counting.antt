@@ -11,7 +11,7 @@ use Rattle.history_model.specs.History.{IsLegal}
 use Rattle.claim_rule.specs.Rule.{DeskView}
 use Rattle.claim_rule.specs.Calls.{AddsStepsBy}
 use Rattle.claim_rule.proofs.Shapes.{shape_then, shape_none}
-use Rattle.rail_catalogue.specs.Contents.{CatalogueView}
+use Rattle.catalogue_contents.specs.Contents.{CatalogueView}
 use Rattle.availability.specs.Looks.{CountsFree}
 use Rattle.offer_engine.specs.declared.wish.OfferWish.{OfferWish}
 use Rattle.offer_engine.specs.Offers.{wanted_places, CountsSegments, IsOfferFor, OffersFor, BeginsOffers}

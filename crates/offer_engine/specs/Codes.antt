@@ -4,7 +4,7 @@ use Rattle.std.specs.List.{list_all}
 use Rattle.offer_codes.specs.declared.code.Segment.{Segment}
 use Rattle.offer_codes.specs.Offers.{OfferView}
 use Rattle.train_runs.specs.Runs.{RunsView}
-use Rattle.rail_catalogue.specs.Contents.{CatalogueView}
+use Rattle.catalogue_contents.specs.Contents.{CatalogueView}
 use Rattle.offer_prices.specs.Runs.{is_of_runs}
 use Rattle.trip_builder.specs.Segments.{first_stop, last_stop, first_of, last_of}
 use Rattle.trip_builder.specs.Trips.{are_connected}

@@ -6,7 +6,7 @@ use Rattle.place_map.specs.Candidates.{candidates_of}
 use Rattle.offer_codes.specs.declared.code.Segment.{Segment}
 use Rattle.offer_codes.specs.declared.code.Offer.{Offer}
 use Rattle.offer_codes.specs.Offers.{OfferView, offer_view}
-use Rattle.rail_catalogue.specs.Contents.{CatalogueView}
+use Rattle.catalogue_contents.specs.Contents.{CatalogueView}
 use Rattle.offer_prices.specs.Prices.{offer_price}
 use Rattle.trip_builder.specs.declared.trip.TripWish.{TripWish}
 use Rattle.history_model.specs.declared.entry.Step.{Step}

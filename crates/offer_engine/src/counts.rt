@@ -5,7 +5,7 @@ ghost use Rattle.claim_rule.specs.Calls.{AddsStepsBy};
 ghost use Rattle.claim_rule.specs.Out.{KeepsHolds, KeepsEndings, IsTidy};
 ghost use Rattle.place_map.specs.ByClass.{has_traits};
 ghost use Rattle.place_map.specs.Candidates.{AreRising};
-ghost use Rattle.rail_catalogue.specs.Contents.{legs_in};
+ghost use Rattle.catalogue_contents.specs.Contents.{legs_in};
 ghost use Rattle.availability.specs.Looks.{CountsFree, row_from};
 ghost use Rattle.offer_engine.specs.Offers.{CountsSegment, CountsSegments};
 
@@ -16,7 +16,7 @@ use claim_rule::{Books, Desk};
 use leg_masks::Span;
 use offer_codes::Segment;
 use place_map::Place;
-use rail_catalogue::Catalogue;
+use catalogue_contents::Catalogue;
 use rail_ids::PlaceNo;
 
 /// How many of each segment's wanted places are free on it, by a look at each piece of each place. Takes no memory.

@@ -3,7 +3,7 @@ ghost use Rattle.offer_codes.specs.Offers.{is_party};
 ghost use Rattle.claim_rule.specs.Desks.{IsOf};
 ghost use Rattle.claim_rule.specs.Calls.{AddsStepsBy};
 ghost use Rattle.claim_rule.specs.Out.{KeepsHolds, KeepsEndings, IsTidy};
-ghost use Rattle.rail_catalogue.specs.Contents.{legs_in};
+ghost use Rattle.catalogue_contents.specs.Contents.{legs_in};
 ghost use Rattle.offer_engine.specs.Offers.{raised as raised_of, MakesOffers, BeginsMaking, IsOfferFor};
 
 use crate::counts::count_segments;
@@ -11,7 +11,7 @@ use crate::wish::OfferWish;
 use claim_rule::{Books, Desk};
 use offer_codes::{Offer, OfferCode};
 use offer_prices::price_of_offer;
-use rail_catalogue::Catalogue;
+use catalogue_contents::Catalogue;
 use rail_time::Moment;
 use std::alloc::{AllocError, Global};
 use trip_builder::{Trip, TripWish, trips};

@@ -5,7 +5,7 @@ use Rattle.place_map.specs.declared.coach.Class.{Class}
 use Rattle.tariff.specs.Prices.{FareAmounts, price_of}
 use Rattle.offer_codes.specs.declared.code.Segment.{Segment}
 use Rattle.offer_codes.specs.Offers.{OfferView}
-use Rattle.rail_catalogue.specs.Contents.{CatalogueView, fare_in}
+use Rattle.catalogue_contents.specs.Contents.{CatalogueView, fare_in}
 
 abbrev pub no_fare : FareAmounts
 no_fare = record { base = 0; per_leg = 0 }

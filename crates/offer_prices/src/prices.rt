@@ -5,7 +5,7 @@ ghost use Rattle.tariff.specs.Prices.{greatest_price};
 ghost use Rattle.offer_prices.specs.Prices.{offer_price, segment_price};
 
 use offer_codes::{OfferCode, Segment};
-use rail_catalogue::Catalogue;
+use catalogue_contents::Catalogue;
 use tariff::{Fare, price};
 
 /// The price of an offer's segments for all its passengers, in minor units. A segment of no run of the catalogue costs

@@ -10,7 +10,7 @@ use Rattle.offer_codes.specs.Offers.{offer_view, is_offer, offer_text}
 use Rattle.offer_codes.specs.Refunds.{is_refund, refund_text}
 use Rattle.offer_codes.specs.Exchanges.{exchange_view, is_exchange, exchange_text}
 use Rattle.rail_catalogue.specs.Json.{json_of}
-use Rattle.rail_catalogue.specs.Contents.{CatalogueView}
+use Rattle.catalogue_contents.specs.Contents.{CatalogueView}
 use Rattle.osdm_json.specs.declared.route.Route.{Route}
 use Rattle.osdm_json.specs.declared.route.Route.TheVariants as route
 use Rattle.osdm_json.specs.declared.command.Command.{Command}

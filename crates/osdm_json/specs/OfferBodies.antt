@@ -6,7 +6,7 @@ use Rattle.offer_codes.specs.Offers.{is_party}
 use Rattle.train_runs.specs.Stations.{station_with}
 use Rattle.trip_builder.specs.declared.trip.TripWish.{TripWish}
 use Rattle.rail_catalogue.specs.Json.{whole_in, whole_or, text_of}
-use Rattle.rail_catalogue.specs.Contents.{CatalogueView}
+use Rattle.catalogue_contents.specs.Contents.{CatalogueView}
 use Rattle.osdm_texts.specs.declared.field.FieldName.TheVariants.{Adults, Children, Class, Wanted, Origin, Destination, Earliest, Latest}
 use Rattle.osdm_json.specs.declared.fault.BodyFault.{BodyFault}
 use Rattle.osdm_json.specs.declared.fault.BodyFault.TheVariants.{Field}

@@ -7,7 +7,7 @@ use Rattle.offer_codes.specs.Refunds.{is_refund}
 use Rattle.offer_codes.specs.Exchanges.{exchange_view, is_exchange}
 use Rattle.train_runs.specs.Stops.{RunView, legs_of}
 use Rattle.trip_builder.specs.declared.trip.TripWish.{TripWish}
-use Rattle.rail_catalogue.specs.Contents.{CatalogueView}
+use Rattle.catalogue_contents.specs.Contents.{CatalogueView}
 use Rattle.osdm_json.specs.declared.command.Command.{Command}
 use Rattle.osdm_json.specs.declared.command.Command.TheVariants as command
 

@@ -1,6 +1,6 @@
 //! The bodies that name a booking, an offer or a status.
 ghost use Rattle.std.specs.Prelude.{◌≡◌, Ok, Err, IfOk, IfErr};
-ghost use Rattle.rail_catalogue.specs.Contents.{CatalogueView};
+ghost use Rattle.catalogue_contents.specs.Contents.{CatalogueView};
 ghost use Rattle.json_text.specs.View.{view};
 ghost use Rattle.osdm_texts.specs.declared.field.FieldName.TheVariants.{Status};
 ghost use Rattle.osdm_json.specs.declared.fault.BodyFault.TheVariants.{Field};

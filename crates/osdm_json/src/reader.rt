@@ -16,7 +16,7 @@ use crate::spellings::row_of;
 use crate::stretches::{read_places, read_reserve};
 use json_text::{Scratch, Value};
 use osdm_texts::FieldName;
-use rail_catalogue::Catalogue;
+use catalogue_contents::Catalogue;
 use std::alloc::Global;
 
 /// Memory for the reading of bodies. What one took serves the next.

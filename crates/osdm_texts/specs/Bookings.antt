@@ -9,7 +9,7 @@ use Rattle.history_model.specs.declared.booking.End.{End}
 use Rattle.history_model.specs.Booking.{successor_rows}
 use Rattle.rail_ids.specs.declared.RowNo.{RowNo}
 use Rattle.booking_rows.specs.Views.{RowSeen, MaySucceed}
-use Rattle.rail_catalogue.specs.Contents.{CatalogueView}
+use Rattle.catalogue_contents.specs.Contents.{CatalogueView}
 use Rattle.osdm_texts.specs.Statuses.{phase_text}
 use Rattle.osdm_texts.specs.Times.{time_text}
 use Rattle.osdm_texts.specs.Ids.{booking_id, HasId}

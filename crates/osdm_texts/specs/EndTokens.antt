@@ -2,7 +2,7 @@
 use Rattle.std.specs.Prelude.{List, [], ◌∷◌, ◌++◌, Option, Some, None, codes, ℕ, decimal}
 use Rattle.json.specs.Token.{Token, key, string, number, end_object}
 use Rattle.history_model.specs.declared.booking.End.{End}
-use Rattle.rail_catalogue.specs.Contents.{CatalogueView}
+use Rattle.catalogue_contents.specs.Contents.{CatalogueView}
 use Rattle.osdm_texts.specs.Times.{time_text}
 use Rattle.osdm_texts.specs.Amounts.{amount_tree}
 use Rattle.osdm_texts.specs.Appends.{tokens_of}

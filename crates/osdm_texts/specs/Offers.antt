@@ -6,7 +6,7 @@ use Rattle.rail_time.specs.Moments.{last_second}
 use Rattle.offer_codes.specs.declared.code.Segment.{Segment}
 use Rattle.offer_codes.specs.declared.code.Offer.{Offer}
 use Rattle.offer_codes.specs.Offers.{offer_view, is_offer, valid_seconds}
-use Rattle.rail_catalogue.specs.Contents.{CatalogueView}
+use Rattle.catalogue_contents.specs.Contents.{CatalogueView}
 use Rattle.osdm_texts.specs.Times.{time_text}
 use Rattle.osdm_texts.specs.Ids.{offer_id}
 use Rattle.osdm_texts.specs.Amounts.{count_tree, amount_tree}

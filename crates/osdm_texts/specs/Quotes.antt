@@ -4,7 +4,7 @@ use Rattle.serde_json.specs.Data.{Data, string, object, no_members, member}
 use Rattle.offer_codes.specs.declared.code.RefundCode.{RefundCode}
 use Rattle.offer_codes.specs.declared.code.ExchangeCode.{ExchangeCode}
 use Rattle.offer_codes.specs.Exchanges.{exchange_view}
-use Rattle.rail_catalogue.specs.Contents.{CatalogueView}
+use Rattle.catalogue_contents.specs.Contents.{CatalogueView}
 use Rattle.osdm_texts.specs.Times.{time_text}
 use Rattle.osdm_texts.specs.Ids.{refund_id, exchange_id}
 use Rattle.osdm_texts.specs.Amounts.{amount_tree}

@@ -7,7 +7,7 @@ use Rattle.offer_codes.specs.Refunds.{is_refund}
 use Rattle.offer_codes.specs.Exchanges.{exchange_view, is_exchange}
 use Rattle.rail_ids.specs.declared.RowNo.{RowNo}
 use Rattle.booking_rows.specs.Views.{RowSeen}
-use Rattle.rail_catalogue.specs.Contents.{CatalogueView}
+use Rattle.catalogue_contents.specs.Contents.{CatalogueView}
 use Rattle.osdm_texts.specs.declared.reply.Reply.{Reply}
 use Rattle.osdm_texts.specs.declared.reply.Reply.TheVariants.{OfferList, Booking, RefundOffer, ExchangeOffer, Exchange, PlaceList, Swept, Problem}
 use Rattle.osdm_texts.specs.Ids.{booking_id, HasId}

@@ -3,7 +3,7 @@ use Rattle.std.specs.Prelude.{◌==◌, ◌&&◌, Bool, List, [], ◌∷◌, if�
 use Rattle.serde_json.specs.Data.{Data, string, object, no_members, member}
 use Rattle.leg_masks.specs.Interval.{PlacedSpan, word_legs}
 use Rattle.place_map.specs.Places.{run_number}
-use Rattle.rail_catalogue.specs.Contents.{CatalogueView}
+use Rattle.catalogue_contents.specs.Contents.{CatalogueView}
 use Rattle.osdm_texts.specs.Amounts.{count_tree}
 use Rattle.osdm_texts.specs.Spots.{stop_code, train_of, place_at}
 

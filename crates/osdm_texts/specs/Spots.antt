@@ -9,7 +9,7 @@ use Rattle.place_map.specs.Places.{places_of}
 use Rattle.train_runs.specs.declared.run.Stop.{Stop}
 use Rattle.train_runs.specs.Stations.{StationView}
 use Rattle.train_runs.specs.Stops.{RunView, stop_at}
-use Rattle.rail_catalogue.specs.Contents.{CatalogueView}
+use Rattle.catalogue_contents.specs.Contents.{CatalogueView}
 
 -- the n-th stop of a run
 abbrev pub run_stop : CatalogueView → ℕ → ℕ → Stop

@@ -16,7 +16,7 @@ use booking_rows::{EndView, RowView};
 use history_model::phase::{EndKind, Phase};
 use json::Writer;
 use leg_masks::Item;
-use rail_catalogue::Catalogue;
+use catalogue_contents::Catalogue;
 use rail_ids::RowNo;
 use rail_time::Moment;
 use std::alloc::AllocError;

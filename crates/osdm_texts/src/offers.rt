@@ -9,7 +9,7 @@ use crate::members::{put_count, put_price, put_text, put_time};
 use crate::spots::{run_stop, stop_code, train_number};
 use json::Writer;
 use offer_codes::{Offer, Segment, VALID_SECONDS};
-use rail_catalogue::Catalogue;
+use catalogue_contents::Catalogue;
 use std::alloc::AllocError;
 
 pub(crate) fn put_offers(

@@ -9,7 +9,7 @@ use crate::ids::{exchange_id, refund_id, text_of};
 use crate::members::{put_amount, put_price, put_text, put_time};
 use json::Writer;
 use offer_codes::{ExchangeCode, RefundCode, VALID_SECONDS};
-use rail_catalogue::Catalogue;
+use catalogue_contents::Catalogue;
 use std::alloc::AllocError;
 
 pub(crate) fn put_refund(

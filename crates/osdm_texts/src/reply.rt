@@ -21,7 +21,7 @@ use crate::spots::run_places;
 use booking_rows::{RowView, Swept};
 use json::Writer;
 use offer_codes::{ExchangeCode, Offer, RefundCode};
-use rail_catalogue::Catalogue;
+use catalogue_contents::Catalogue;
 use rail_ids::{RowNo, RunNo};
 use std::alloc::{AllocError, Global};
 

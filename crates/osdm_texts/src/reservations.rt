@@ -10,7 +10,7 @@ use crate::members::{put_count, put_text};
 use crate::spots::{place_at, stop_code, train_number};
 use json::Writer;
 use leg_masks::{Item, Span, WORD_LEGS};
-use rail_catalogue::Catalogue;
+use catalogue_contents::Catalogue;
 use std::alloc::AllocError;
 use std::marker::Model;
 

@@ -16,7 +16,7 @@ use crate::small::swept_text;
 use booking_rows::{Detail, Swept};
 use history_model::phase::Phase;
 use leg_masks::Item;
-use rail_catalogue::Catalogue;
+use catalogue_contents::Catalogue;
 use rail_ids::RowNo;
 use std::alloc::Global;
 

@@ -7,7 +7,7 @@ use Rattle.rail_ids.specs.declared.RowNo.{RowNo}
 use Rattle.leg_masks.specs.Interval.{PlacedSpan as Item}
 use Rattle.offer_codes.specs.declared.code.Segment.{Segment}
 use Rattle.offer_codes.specs.Offers.{OfferView}
-use Rattle.rail_catalogue.specs.Contents.{CatalogueView}
+use Rattle.catalogue_contents.specs.Contents.{CatalogueView}
 use Rattle.history_model.specs.declared.booking.BookedItem.{BookedItem}
 use Rattle.history_model.specs.declared.entry.Step.{Step}
 use Rattle.history_model.specs.declared.entry.Step.TheVariants.{Seal}

@@ -20,7 +20,7 @@ use Rattle.claim_rule.specs.Out.{IsIdle}
 use Rattle.claim_rule.proofs.Moves.{is_sound}
 use Rattle.claim_rule.proofs.OwnWork.{IsOwned}
 use Rattle.booking_rows.specs.SealedRows.{FitWords}
-use Rattle.rail_catalogue.specs.Contents.{CatalogueView, legs_in}
+use Rattle.catalogue_contents.specs.Contents.{CatalogueView, legs_in}
 use Rattle.lone_desk.specs.Lone.{IsAlone}
 use Rattle.plain_host.specs.Settled.{IsStanding, IsEmptyRow, IsSettled}
 use Rattle.plain_host.specs.Plainly.{IsLone}

@@ -11,7 +11,7 @@ use Rattle.place_map.specs.Candidates.{candidates_of, IsOfRun}
 use Rattle.place_map.proofs.Numbers.{candidates_of_run}
 use Rattle.offer_codes.specs.declared.code.Segment.{Segment}
 use Rattle.offer_codes.specs.Offers.{OfferView}
-use Rattle.rail_catalogue.specs.Contents.{CatalogueView}
+use Rattle.catalogue_contents.specs.Contents.{CatalogueView}
 use Rattle.history_model.specs.Booking.{State}
 use Rattle.history_model.specs.History.{IsLegal}
 use Rattle.history_model.specs.Lists.{Pairwise}

@@ -20,7 +20,7 @@ use Rattle.trip_builder.proofs.AllLists.{have_lists}
 use Rattle.trip_builder.proofs.FirstSixteen.{all_among, all_put}
 use Rattle.offer_codes.specs.declared.code.Segment.{Segment}
 use Rattle.offer_codes.specs.Offers.{OfferView, is_segment, is_offer, is_party}
-use Rattle.rail_catalogue.specs.Contents.{CatalogueView, place_legs, legs_in}
+use Rattle.catalogue_contents.specs.Contents.{CatalogueView, place_legs, legs_in}
 use Rattle.history_model.proofs.ListLemmas.{All-map}
 use Rattle.claim_rule.specs.Rule.{DeskView}
 use Rattle.hold_core.specs.Tries.{place_number}

@@ -11,7 +11,7 @@ use Rattle.trip_builder.specs.Trips.{trips_of, uses_run, connects, follows, is_c
 use Rattle.offer_codes.specs.declared.code.Segment.{Segment}
 use Rattle.offer_codes.specs.declared.code.OfferCode.{OfferCode}
 use Rattle.offer_codes.specs.Offers.{OfferView, offer_view}
-use Rattle.rail_catalogue.specs.Contents.{CatalogueView}
+use Rattle.catalogue_contents.specs.Contents.{CatalogueView}
 use Rattle.history_model.specs.Lists.{Across}
 use Rattle.history_model.proofs.ListLemmas.{Pairwise-append}
 use Rattle.claim_rule.specs.Rule.{DeskView, state_seen}

@@ -7,7 +7,7 @@ use Rattle.rail_ids.specs.declared.PlaceNo.{PlaceNo}
 use Rattle.offer_codes.specs.declared.code.Segment.{Segment}
 use Rattle.offer_codes.specs.declared.code.Offer.{Offer}
 use Rattle.offer_codes.specs.declared.code.OfferCode.{OfferCode}
-use Rattle.rail_catalogue.specs.Contents.{CatalogueView}
+use Rattle.catalogue_contents.specs.Contents.{CatalogueView}
 use Rattle.trip_builder.specs.Trips.{trips_of}
 use Rattle.history_model.specs.declared.entry.Step.{Step}
 use Rattle.history_model.specs.Booking.{Booking, Layout, State}

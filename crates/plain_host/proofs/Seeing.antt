@@ -14,7 +14,7 @@ use Rattle.claim_rule.proofs.Moves.{is_sound}
 use Rattle.booking_rows.specs.Views.{RowSeen}
 use Rattle.booking_rows.specs.SealedRows.{FitWords}
 use Rattle.booking_rows.proofs.Looked.{row_looked}
-use Rattle.rail_catalogue.specs.Contents.{CatalogueView}
+use Rattle.catalogue_contents.specs.Contents.{CatalogueView}
 use Rattle.refund_core.specs.Quotes.{SeesOwn, SeesNone}
 use Rattle.osdm_texts.specs.declared.problem.Problem.TheVariants.{UnknownBooking}
 use Rattle.osdm_texts.specs.Answers.{Reply, problem}

@@ -9,7 +9,7 @@ use Rattle.history_model.proofs.ListLemmas.{All-append, All-left, All-right}
 use Rattle.claim_rule.specs.Rule.{DeskView, state_seen}
 use Rattle.claim_rule.specs.Desks.{AddsSteps}
 use Rattle.booking_rows.specs.SealedRows.{FitWords}
-use Rattle.rail_catalogue.specs.Contents.{CatalogueView}
+use Rattle.catalogue_contents.specs.Contents.{CatalogueView}
 use Rattle.lone_desk.specs.Lone.{IsAlone}
 use Rattle.lone_desk.proofs.Following.{shape_follows}
 use Rattle.plain_host.specs.Settled.{IsStanding, IsEmptyRow, IsSettled}

@@ -13,7 +13,7 @@ use Rattle.claim_rule.specs.Rule.{DeskView, state_seen}
 use Rattle.claim_rule.proofs.Moves.{is_sound}
 use Rattle.booking_rows.specs.declared.swept.Swept.{Swept}
 use Rattle.expiry_sweeper.specs.AllRows.{sweeps_steps}
-use Rattle.rail_catalogue.specs.Contents.{CatalogueView}
+use Rattle.catalogue_contents.specs.Contents.{CatalogueView}
 use Rattle.osdm_texts.specs.declared.problem.Problem.{Problem}
 use Rattle.osdm_texts.specs.Answers.{swept}
 use Rattle.booking_service.specs.Sweeping.{SweepsRows}

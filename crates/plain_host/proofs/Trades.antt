@@ -23,7 +23,7 @@ use Rattle.booking_rows.specs.Aims.{end_of, LosesTurn}
 use Rattle.booking_rows.specs.declared.turns.Aim.TheVariants as aim
 use Rattle.booking_rows.proofs.Looked.{row_looked}
 use Rattle.confirm_core.specs.RowEnds.{ends_as}
-use Rattle.rail_catalogue.specs.Contents.{CatalogueView}
+use Rattle.catalogue_contents.specs.Contents.{CatalogueView}
 use Rattle.offer_codes.specs.declared.code.RefundCode.{RefundCode}
 use Rattle.offer_codes.specs.declared.code.OfferCode.{OfferCode}
 use Rattle.offer_codes.specs.declared.code.ExchangeCode.{ExchangeCode}

@@ -13,7 +13,7 @@ use Rattle.train_runs.specs.declared.run.Stop.{Stop}
 use Rattle.tariff.specs.Prices.{FareAmounts}
 use Rattle.offer_codes.specs.declared.code.Segment.{Segment}
 use Rattle.offer_codes.specs.Offers.{OfferView}
-use Rattle.rail_catalogue.specs.Contents.{CatalogueView}
+use Rattle.catalogue_contents.specs.Contents.{CatalogueView}
 use Rattle.osdm_texts.specs.declared.problem.Problem.TheVariants.{NoPlace, RowsFull, TooLate, WrongState, UnknownBooking}
 use Rattle.osdm_texts.specs.Answers.{created, booking, place_list, swept, problem}
 use Rattle.osdm_json.specs.declared.command.Command.TheVariants as command

@@ -10,7 +10,7 @@ use Rattle.history_model.specs.Phase.{word_of_phase, is_live, is_ended}
 use Rattle.booking_rows.specs.Views.{RowSeen}
 use Rattle.offer_codes.specs.declared.code.Segment.{Segment}
 use Rattle.offer_codes.specs.Offers.{OfferView}
-use Rattle.rail_catalogue.specs.Contents.{CatalogueView}
+use Rattle.catalogue_contents.specs.Contents.{CatalogueView}
 use Rattle.place_map.specs.declared.coach.Place.{Place}
 use Rattle.party_places.specs.Stretches.{is_beside}
 use Rattle.osdm_texts.specs.Answers.{Reply}

@@ -1,6 +1,6 @@
 //! A desk that is alone.
 ghost use Rattle.std.specs.Prelude.{◌≡◌};
-ghost use Rattle.rail_catalogue.specs.Contents.{CatalogueView, legs_in};
+ghost use Rattle.catalogue_contents.specs.Contents.{CatalogueView, legs_in};
 ghost use Rattle.claim_rule.specs.Rule.{BooksView, DeskView};
 ghost use Rattle.claim_rule.specs.Out.{IsIdle};
 ghost use Rattle.claim_rule.specs.Desks.{IsOf};

@@ -21,7 +21,7 @@ ghost use Rattle.offer_codes.specs.declared.code.Segment.{Segment};
 ghost use Rattle.rail_ids.specs.declared.RowNo.{RowNo};
 ghost use Rattle.offer_codes.specs.declared.code.OfferCode.{OfferCode};
 ghost use Rattle.offer_codes.specs.declared.code.ExchangeCode.{ExchangeCode};
-ghost use Rattle.rail_catalogue.specs.Contents.{CatalogueView};
+ghost use Rattle.catalogue_contents.specs.Contents.{CatalogueView};
 ghost use Rattle.osdm_json.specs.declared.command.Command.{Command};
 ghost use Rattle.osdm_json.specs.declared.command.Command.TheVariants.{Book, AcceptExchange};
 ghost use Rattle.osdm_json.specs.Readable.{IsReadable};

@@ -15,7 +15,8 @@ use Rattle.rail_catalogue.specs.Format.{HeadingView, NetworkView, heading_of, ne
 use Rattle.rail_catalogue.specs.Json.{data_of, list_of, if_so_many}
 use Rattle.rail_catalogue.specs.Listed.{all_ahead, AreListed}
 use Rattle.rail_catalogue.specs.Networks.{front_in, start_of, runs_at, with_runs}
-use Rattle.rail_catalogue.specs.Retailers.{RetailerView, retailers_of}
+use Rattle.catalogue_contents.specs.Retailers.{RetailerView}
+use Rattle.rail_catalogue.specs.Retailers.{retailers_of}
 use Rattle.rail_catalogue.specs.Stations.{stations_of}
 use Rattle.rail_catalogue.specs.Steps.{terms_of}
 use Rattle.rail_catalogue.proofs.JsonFacts.{json_of-some}

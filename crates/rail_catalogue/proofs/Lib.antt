@@ -1,4 +1,3 @@
 pub mod JsonFacts
-pub mod Indexes
 pub mod Stationing
 pub mod Fronts

@@ -6,14 +6,14 @@ use Rattle.serde_json.specs.Find.{get, as_object}
 use Rattle.place_map.specs.declared.coach.Place.{Place}
 use Rattle.train_runs.specs.Stations.{StationView}
 use Rattle.train_runs.specs.Runs.{RunsView}
+use Rattle.catalogue_contents.specs.Contents.{CatalogueView, FaresView}
 use Rattle.rail_catalogue.specs.Json.{json_of, whole_or, text_by, list_in}
 use Rattle.rail_catalogue.specs.Faults.{Fault, not_json, need, after, item_path}
 use Rattle.rail_catalogue.specs.Retailers.{retailers_of}
 use Rattle.rail_catalogue.specs.Stations.{stations_of}
 use Rattle.rail_catalogue.specs.Steps.{terms_of}
-use Rattle.rail_catalogue.specs.Stops.{FaresView, timetable_of, fares_of}
+use Rattle.rail_catalogue.specs.Stops.{timetable_of, fares_of}
 use Rattle.rail_catalogue.specs.Coaches.{coaches_from}
-use Rattle.rail_catalogue.specs.Contents.{CatalogueView}
 
 -- runs with their fares and places
 pub record NetworkView : Type 0 where

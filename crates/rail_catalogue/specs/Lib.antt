@@ -7,7 +7,6 @@ pub mod Stops
 pub mod TimeViews
 pub mod Coaches
 pub mod CoachViews
-pub mod Contents
 pub mod Format
 pub mod Networks
 pub mod Listed

@@ -5,13 +5,14 @@ use Rattle.serde_json.specs.Find.{get}
 use Rattle.json_text.specs.Outlines.{member_at}
 use Rattle.tariff.specs.Refunds.{RefundTerms}
 use Rattle.train_runs.specs.Stations.{StationView}
+use Rattle.catalogue_contents.specs.declared.network.Network.{Network}
+use Rattle.catalogue_contents.specs.Contents.{CatalogueView}
+use Rattle.catalogue_contents.specs.Retailers.{RetailerView}
 use Rattle.rail_catalogue.specs.declared.reader.Front.{Front}
 use Rattle.rail_catalogue.specs.declared.reader.Heading.{Heading}
-use Rattle.rail_catalogue.specs.declared.runs.Network.{Network}
-use Rattle.rail_catalogue.specs.Contents.{CatalogueView}
 use Rattle.rail_catalogue.specs.Faults.{Fault, after}
 use Rattle.rail_catalogue.specs.Format.{HeadingView, NetworkView, heading_of, network_of}
-use Rattle.rail_catalogue.specs.Retailers.{RetailerView, retailers_of}
+use Rattle.rail_catalogue.specs.Retailers.{retailers_of}
 use Rattle.rail_catalogue.specs.Stations.{stations_of}
 use Rattle.rail_catalogue.specs.Steps.{terms_of}
 

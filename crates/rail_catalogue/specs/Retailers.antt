@@ -1,16 +1,11 @@
--- The retailers of a catalogue.
-use Rattle.std.specs.Prelude.{ℕ, ◌==◌, ◌&&◌, ◌||◌, nat_le, Bool, List, [], ◌∷◌, ◌++◌, length, codes, if◌then◌else◌, Option, Some, None, Result, Ok, Err, is_some}
-use Rattle.std.specs.List.{list_all, list_any}
-use Rattle.std.specs.Str.{bytes_eq}
+-- The retailers of a catalogue, as the file lists them.
+use Rattle.std.specs.Prelude.{ℕ, ◌==◌, ◌&&◌, ◌||◌, nat_le, Bool, List, [], ◌∷◌, ◌++◌, length, codes, if◌then◌else◌, Option, Result, Ok, Err, is_some}
+use Rattle.std.specs.List.{list_all}
 use Rattle.serde_json.specs.Data.{Data}
 use Rattle.serde_json.specs.Find.{get, as_object}
-use Rattle.rail_ids.specs.declared.RetailerNo.{RetailerNo}
+use Rattle.catalogue_contents.specs.Retailers.{RetailerView, has_number, retailer_with}
 use Rattle.rail_catalogue.specs.Json.{whole_in, text_by, list_in}
 use Rattle.rail_catalogue.specs.Faults.{Fault, double_key, need, after, item_path}
-
-pub record RetailerView : Type 0 where
-  pub number : ℕ
-  pub key : List ℕ
 
 -- a letter, a digit, `-` or `_`, in ASCII
 abbrev pub is_key_byte : ℕ → Bool
@@ -21,14 +16,6 @@ is_key_byte b =
 -- one to 32 of them
 abbrev pub is_key : List ℕ → Bool
 is_key key = nat_le 1 (length key) && (nat_le (length key) 32 && list_all is_key_byte key)
-
-abbrev pub has_number : ℕ → List RetailerView → Bool
-has_number number retailers = list_any (λ r. number == r.number) retailers
-
--- the number of the retailer with the key
-abbrev pub retailer_with : List ℕ → List RetailerView → Option RetailerNo
-retailer_with key [] = None
-retailer_with key (r ∷ rest) = if bytes_eq key r.key then Some (record { 0 = r.number }) else retailer_with key rest
 
 -- the retailers with the next item of the list
 abbrev pub with_retailer : List RetailerView → Data → Result (List RetailerView) Fault

@@ -5,12 +5,12 @@ use Rattle.serde_json.specs.Find.{get, as_object, as_str}
 use Rattle.rail_ids.specs.declared.StationNo.{StationNo}
 use Rattle.rail_time.specs.Moments.{moment_of}
 use Rattle.rail_time.specs.declared.moment.MomentFault.{MomentFault}
-use Rattle.tariff.specs.Prices.{FareAmounts}
 use Rattle.train_runs.specs.declared.run.Stop.{Stop}
 use Rattle.train_runs.specs.declared.run.RunFault.{RunFault}
 use Rattle.train_runs.specs.Stations.{StationView, station_with}
 use Rattle.train_runs.specs.Stops.{RunView}
 use Rattle.train_runs.specs.Runs.{RunsView, run_fault}
+use Rattle.catalogue_contents.specs.Contents.{FaresView}
 use Rattle.rail_catalogue.specs.Json.{whole_in, list_of, text_of}
 use Rattle.rail_catalogue.specs.Faults.{Fault, field, run, unknown_station, need, after, item_path, run_item_path}
 use Rattle.json_text.specs.View.{view}
@@ -99,11 +99,6 @@ timetable_of r i d = let at : List ℕ → List ℕ = item_path (codes "runs") i
     need (at (codes ".stops")) (list_of (get (codes "stops") d)) (λ items.
     after (stops_from r.stations i (length items) [] items) (λ stops.
     with_run r (record { train = train; stops = stops })))))
-
--- the fares of a run, by class
-pub record FaresView : Type 0 where
-  pub first : FareAmounts
-  pub second : FareAmounts
 
 abbrev pub amount_at : List ℕ → List ℕ → Data → Option ℕ
 amount_at class name d =

@@ -2,14 +2,11 @@
 //!
 //! `read_catalogue` answers a catalogue exactly for a text of the format, with exactly its contents, and else the first
 //! fault in the order of the format, with the path of the member at fault. `Format` in `specs/` defines both, member by
-//! member in the order in which they are tried. A `Catalogue` is never changed; threads share it.
-//!
-//! `crosses` is the proof that threads may share it.
+//! member in the order in which they are tried. A `Catalogue` is never changed; threads share it. What it is asked
+//! stands in `catalogue_contents`, so that whoever only asks doesn't wait for the reader's proofs.
 #![tactic(auto)]
 
-mod catalogue;
 mod coaches;
-mod crossing;
 mod fault;
 mod json;
 mod reader;
@@ -19,8 +16,7 @@ mod stations;
 mod steps;
 mod stops;
 
-pub use catalogue::Catalogue;
-pub use crossing::crosses;
+pub use catalogue_contents::Catalogue;
 pub use fault::CatalogueFault;
 pub use json::{list_of, whole_in, whole_or};
 pub use reader::read_catalogue;

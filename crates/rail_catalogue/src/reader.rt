@@ -6,13 +6,13 @@ ghost use Rattle.rail_catalogue.specs.Faults.{Refuses};
 ghost use Rattle.rail_catalogue.specs.Networks.{heading_view, IsWithin, front_view, front_in, with_runs, runs_at};
 ghost use Rattle.rail_catalogue.specs.Format.{catalogue_of, heading_of, is_currency as is_currency_of, is_capital};
 
-use crate::catalogue::Catalogue;
 use crate::fault::{CatalogueFault, field_fault};
 use crate::json::{outline_of, whole_or};
-use crate::retailers::{Retailers, read_retailers};
+use crate::retailers::read_retailers;
 use crate::runs::read_network;
 use crate::stations::read_stations;
 use crate::steps::read_terms;
+use catalogue_contents::{Catalogue, Retailers};
 use json_text::{Scratch, Value};
 use std::alloc::Global;
 use tariff::Terms;

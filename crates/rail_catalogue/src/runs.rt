@@ -6,30 +6,22 @@ ghost use Rattle.place_map.specs.Places.{EndsWithRun};
 ghost use Rattle.rail_catalogue.specs.Json.{list_of as list_of_member};
 ghost use Rattle.rail_catalogue.specs.Faults.{Refuses, fault_of};
 ghost use Rattle.rail_catalogue.specs.Stops.{timetable_of, fares_of, amount_at, with_run};
-ghost use Rattle.rail_catalogue.specs.Contents.{IsWhole};
+ghost use Rattle.catalogue_contents.specs.Contents.{IsWhole};
 ghost use Rattle.rail_catalogue.specs.Format.{places_of, with_item, network_from, network_of};
 ghost use Rattle.rail_catalogue.specs.Networks.{network_view, runs_at, start_of};
 ghost use Rattle.rail_catalogue.specs.Listed.{all_ahead, AreListed};
 
-use crate::catalogue::Fares;
 use crate::coaches::read_coaches;
 use crate::fault::{CatalogueFault, field_fault, item_fault};
 use crate::json::{list_in, list_of, whole_in};
 use crate::stops::read_stops;
+use catalogue_contents::{Fares, Network};
 use json_text::{Items, Scratch, Value, items_at};
 use place_map::PlaceMap;
 use rail_ids::RunNo;
 use std::alloc::{AllocError, Global};
 use tariff::Fare;
 use train_runs::{Run, RunFault, Runs};
-
-/// Runs with their fares and places, as far as they are read.
-#[derive(Drop)]
-pub struct Network {
-    pub runs: Runs,
-    pub fares: Vec<Fares>,
-    pub places: PlaceMap,
-}
 
 /// The runs of the member at this place, over these stations.
 pub fn read_network(

@@ -7,7 +7,7 @@ use Rattle.claim_rule.specs.Out.{AllLooks}
 use Rattle.rail_io.specs.declared.clock.Reach.{Reach}
 use Rattle.rail_io.specs.declared.clock.Reach.TheVariants.{Changes}
 use Rattle.http_wire.specs.Requests.{RequestText}
-use Rattle.rail_catalogue.specs.Contents.{CatalogueView}
+use Rattle.catalogue_contents.specs.Contents.{CatalogueView}
 use Rattle.rail_ids.specs.declared.RetailerNo.{RetailerNo}
 use Rattle.osdm_texts.specs.declared.problem.Problem.{Problem}
 use Rattle.osdm_texts.specs.Answers.{Told}

@@ -1,6 +1,6 @@
 -- What is said of orders that were carried out, and of commands that were refused.
 use Rattle.std.proofs.Common.{◌≡◌, ℕ, Err, refl, subst}
-use Rattle.rail_catalogue.specs.Contents.{CatalogueView}
+use Rattle.catalogue_contents.specs.Contents.{CatalogueView}
 use Rattle.claim_rule.specs.Rule.{DeskView}
 use Rattle.claim_rule.specs.Out.{MakesEmpty}
 use Rattle.osdm_texts.specs.declared.problem.Problem.{Problem}

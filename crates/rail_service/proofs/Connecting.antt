@@ -16,7 +16,7 @@ use Rattle.session_loop.specs.Writes.{Showing}
 use Rattle.session_loop.specs.Moments.{Awaiting, Permitting, MayWrite}
 use Rattle.session_loop.proofs.Keeping.{end_keeps}
 use Rattle.session_loop.proofs.Views.{end_seen, moment_seen}
-use Rattle.rail_catalogue.specs.Contents.{CatalogueView}
+use Rattle.catalogue_contents.specs.Contents.{CatalogueView}
 use Rattle.osdm_texts.specs.Answers.{problem}
 use Rattle.rail_service.specs.Bytes.{reply_bytes}
 use Rattle.rail_service.specs.declared.service.Service.{Service}

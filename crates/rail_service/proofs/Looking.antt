@@ -17,7 +17,7 @@ use Rattle.availability.specs.Looks.{LooksPieces, LooksAt}
 use Rattle.offer_codes.specs.declared.code.Segment.{Segment}
 use Rattle.offer_codes.specs.declared.code.Offer.{Offer}
 use Rattle.offer_codes.specs.Offers.{OfferView, offer_view}
-use Rattle.rail_catalogue.specs.Contents.{CatalogueView}
+use Rattle.catalogue_contents.specs.Contents.{CatalogueView}
 use Rattle.offer_engine.specs.declared.wish.OfferWish.{OfferWish}
 use Rattle.offer_engine.specs.Offers.{CountsSegments, OffersFor}
 use Rattle.refund_core.specs.Quotes.{SeesOwn, SeesNone}

@@ -16,7 +16,7 @@ use Rattle.claim_rule.specs.Desks.{AddsSteps}
 use Rattle.claim_rule.specs.Calls.{Calls, AddsStepsBy}
 use Rattle.claim_rule.proofs.Shapes.{shape_then, shape_none}
 use Rattle.rail_ids.specs.declared.RowNo.{RowNo}
-use Rattle.rail_catalogue.specs.Contents.{CatalogueView}
+use Rattle.catalogue_contents.specs.Contents.{CatalogueView}
 use Rattle.booking_rows.specs.Views.{RowSeen}
 use Rattle.osdm_texts.specs.declared.problem.Problem.{Problem}
 use Rattle.osdm_texts.specs.Answers.{Reply}

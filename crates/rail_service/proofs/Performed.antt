@@ -5,7 +5,7 @@ use Rattle.claim_rule.specs.Rule.{BooksView, DeskView}
 use Rattle.claim_rule.specs.Desks.{IsOf}
 use Rattle.claim_rule.proofs.Shapes.{adds_length}
 use Rattle.expiry_sweeper.specs.Complete.{LeavesNoneOverdue}
-use Rattle.rail_catalogue.specs.Contents.{CatalogueView}
+use Rattle.catalogue_contents.specs.Contents.{CatalogueView}
 use Rattle.osdm_texts.specs.declared.problem.Problem.{Problem}
 use Rattle.osdm_texts.specs.Answers.{Reply, Told}
 use Rattle.service_rules.specs.Ordered as order

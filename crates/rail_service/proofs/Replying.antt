@@ -4,7 +4,7 @@ use Rattle.std.specs.Prelude.{IfSome, IsSomeAnd}
 use Rattle.history_model.specs.History.{IsLegal}
 use Rattle.claim_rule.specs.Out.{IsIdle}
 use Rattle.http_wire.specs.Requests.{RequestText}
-use Rattle.rail_catalogue.specs.Contents.{CatalogueView}
+use Rattle.catalogue_contents.specs.Contents.{CatalogueView}
 use Rattle.osdm_texts.specs.Answers.{Reply}
 use Rattle.rail_service.specs.Bytes.{reply_bytes}
 use Rattle.rail_service.specs.Serving.{retailer_of, first_after, AnswersRequest}

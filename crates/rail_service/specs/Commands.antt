@@ -1,7 +1,7 @@
 -- What is said of a command, by the desk's own entries.
 use Rattle.std.specs.Prelude.{◌≡◌, ℕ, Result}
 use mathlib.Core.List.{IsPrefix}
-use Rattle.rail_catalogue.specs.Contents.{CatalogueView}
+use Rattle.catalogue_contents.specs.Contents.{CatalogueView}
 use Rattle.claim_rule.specs.Rule.{DeskView}
 use Rattle.osdm_texts.specs.declared.problem.Problem.{Problem}
 use Rattle.osdm_texts.specs.Answers.{Reply, Told, reply_told}

@@ -14,7 +14,7 @@ use Rattle.session_loop.specs.Session.{Answering, Refusing, IsEnd}
 use Rattle.claim_rule.specs.Rule.{DeskView}
 use Rattle.claim_rule.specs.Desks.{AddsSteps}
 use Rattle.claim_rule.specs.Out.{IsIdle}
-use Rattle.rail_catalogue.specs.Contents.{CatalogueView}
+use Rattle.catalogue_contents.specs.Contents.{CatalogueView}
 use Rattle.osdm_texts.specs.Answers.{Reply, problem}
 use Rattle.rail_service.specs.Bytes.{reply_bytes}
 use Rattle.claim_rule.specs.Out.{MakesEmpty}

@@ -6,7 +6,7 @@ use Rattle.claim_rule.specs.Calls.{AddsStepsBy}
 use Rattle.claim_rule.specs.Desks.{AddsSteps}
 use Rattle.claim_rule.specs.Out.{AllLooks}
 use Rattle.rail_ids.specs.declared.RetailerNo.{RetailerNo}
-use Rattle.rail_catalogue.specs.Contents.{CatalogueView}
+use Rattle.catalogue_contents.specs.Contents.{CatalogueView}
 use Rattle.rail_io.specs.Told.{with_front}
 use Rattle.rail_io.specs.declared.clock.Reach.{Reach}
 use Rattle.rail_io.specs.declared.clock.Reach.TheVariants.{Changes}

@@ -1,6 +1,6 @@
 -- What a command has to do with bookings.
 use Rattle.std.specs.Prelude.{ℕ}
-use Rattle.rail_catalogue.specs.Contents.{CatalogueView}
+use Rattle.catalogue_contents.specs.Contents.{CatalogueView}
 use Rattle.history_model.specs.History.{IsLegal}
 use Rattle.claim_rule.specs.Rule.{DeskView}
 use Rattle.claim_rule.specs.Calls.{AddsStepsBy}

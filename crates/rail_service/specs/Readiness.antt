@@ -1,6 +1,6 @@
 -- What a service may begin with.
 use Rattle.std.specs.Prelude.{◌≡◌}
-use Rattle.rail_catalogue.specs.Contents.{CatalogueView, legs_in}
+use Rattle.catalogue_contents.specs.Contents.{CatalogueView, legs_in}
 use Rattle.claim_rule.specs.Rule.{BooksView, DeskView}
 use Rattle.claim_rule.specs.Desks.{IsOf}
 use Rattle.claim_rule.specs.Out.{IsIdle}

@@ -3,8 +3,8 @@ use Rattle.std.specs.Prelude.{◌≡◌, ◌⊎◌, ℕ, ◌==◌, not, Bool, tr
 use Rattle.std.specs.Prelude.{Result, Ok, Err, if◌then◌else◌}
 use Rattle.http_wire.specs.Requests.{RequestText}
 use Rattle.rail_ids.specs.declared.RetailerNo.{RetailerNo}
-use Rattle.rail_catalogue.specs.Retailers.{retailer_with}
-use Rattle.rail_catalogue.specs.Contents.{CatalogueView}
+use Rattle.catalogue_contents.specs.Retailers.{retailer_with}
+use Rattle.catalogue_contents.specs.Contents.{CatalogueView}
 use Rattle.claim_rule.specs.Rule.{DeskView}
 use Rattle.osdm_texts.specs.declared.problem.Problem.{Problem}
 use Rattle.osdm_texts.specs.declared.problem.Problem.TheVariants.{NoRetailer, OtherRetailer, NoMemory}

@@ -12,7 +12,7 @@ use crate::routing::find_route;
 use http_wire::{Intake, Request};
 use matchit::Router;
 use osdm_json::{BodyRoom, Command, Problem, Route, read_command_in};
-use rail_catalogue::Catalogue;
+use catalogue_contents::Catalogue;
 use rail_ids::RetailerNo;
 use rail_io::Clock;
 

@@ -2,7 +2,7 @@
 ghost use Rattle.std.specs.Prelude.{◌≡◌, Ok};
 ghost use Rattle.session_loop.specs.Answered.{answer_bytes};
 ghost use Rattle.rail_service.specs.Reaching.{reach_of as reach_in};
-ghost use Rattle.rail_catalogue.specs.Contents.{legs_in};
+ghost use Rattle.catalogue_contents.specs.Contents.{legs_in};
 ghost use Rattle.claim_rule.specs.Desks.{IsOf};
 ghost use Rattle.claim_rule.specs.Out.{IsIdle, IsTidy, MakesEmpty};
 ghost use Rattle.shop.specs.Homes.{IsAtHome, StaysHome};
@@ -26,7 +26,7 @@ use claim_rule::{Books, Desk};
 use http_wire::Answer;
 use osdm_json::{Command, Problem};
 use osdm_texts::Written;
-use rail_catalogue::Catalogue;
+use catalogue_contents::Catalogue;
 use rail_ids::RetailerNo;
 use rail_io::Clock;
 use rail_time::Moment;

@@ -1,7 +1,7 @@
 //! Refusals of what stands in a request's place.
 ghost use Rattle.std.specs.Prelude.{◌≡◌, true};
 ghost use Rattle.session_loop.specs.Answered.{answer_bytes};
-ghost use Rattle.rail_catalogue.specs.Contents.{CatalogueView};
+ghost use Rattle.catalogue_contents.specs.Contents.{CatalogueView};
 ghost use Rattle.osdm_texts.specs.Answers.{problem};
 ghost use Rattle.rail_service.specs.Bytes.{reply_bytes};
 ghost use Rattle.rail_service.specs.Refusals.{problem_of_wire as problem_of};

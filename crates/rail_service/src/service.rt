@@ -9,7 +9,7 @@ use claim_rule::{Books, Desk};
 use http_wire::{Answer, Intake, Request, WireFault};
 use matchit::Router;
 use osdm_json::BodyRoom;
-use rail_catalogue::Catalogue;
+use catalogue_contents::Catalogue;
 use rail_ids::RetailerNo;
 use rail_io::Clock;
 use session_loop::Responder;

@@ -2,7 +2,7 @@
 ghost use Rattle.std.specs.Prelude.{◌≡◌};
 ghost use Rattle.rail_io.specs.Faults.{Rose};
 ghost use Rattle.session_loop.specs.declared.end.ConnEnd.TheVariants.{ReadFault, WriteFault};
-ghost use Rattle.rail_catalogue.specs.Contents.{legs_in};
+ghost use Rattle.catalogue_contents.specs.Contents.{legs_in};
 ghost use Rattle.claim_rule.specs.Desks.{IsOf};
 ghost use Rattle.claim_rule.specs.Out.{IsIdle, IsTidy};
 ghost use Rattle.lone_desk.specs.Lone.{IsAlone};
@@ -13,7 +13,7 @@ ghost use Rattle.rail_service.specs.OneThread.{ServesAlone};
 
 use crate::connection::serve_permitted;
 use claim_rule::{Books, Desk};
-use rail_catalogue::Catalogue;
+use catalogue_contents::Catalogue;
 use rail_io::{Clock, Sink, Source};
 use session_loop::{ConnEnd, Outlet};
 use std::alloc::Global;

@@ -21,7 +21,7 @@ use Rattle.booking_rows.specs.SealedRows.{IsSealedRow}
 use Rattle.confirm_core.specs.RowEnds.{EndsBooking}
 use Rattle.confirm_core.proofs.Deciding.{can_turn}
 use Rattle.confirm_core.proofs.Finishing.{ends_length}
-use Rattle.rail_catalogue.specs.Contents.{CatalogueView}
+use Rattle.catalogue_contents.specs.Contents.{CatalogueView}
 use Rattle.offer_codes.specs.declared.code.RefundCode.{RefundCode}
 use Rattle.refund_core.specs.declared.refunding.Refunded.TheVariants as refunded
 use Rattle.refund_core.specs.Quotes.{FindsBooking, phase_named, is_stale, refund_at}

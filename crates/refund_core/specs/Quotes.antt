@@ -6,7 +6,7 @@ use Rattle.history_model.specs.declared.phase.Phase.{Phase}
 use Rattle.history_model.specs.declared.phase.Phase.TheVariants.{Confirmed, Fulfilled}
 use Rattle.rail_ids.specs.declared.RowNo.{RowNo}
 use Rattle.booking_rows.specs.Views.{RowSeen, LooksRow}
-use Rattle.rail_catalogue.specs.Contents.{CatalogueView, least_departure}
+use Rattle.catalogue_contents.specs.Contents.{CatalogueView, least_departure}
 use Rattle.offer_codes.specs.Offers.{valid_seconds}
 use Rattle.tariff.specs.Refunds.{refund_of}
 

@@ -13,7 +13,7 @@ use Rattle.booking_rows.specs.Ends.{IsEndedAs}
 use Rattle.booking_rows.specs.Views.{RowSeen}
 use Rattle.claim_rule.specs.Rule.{DeskView}
 use Rattle.confirm_core.specs.RowEnds.{ends_as}
-use Rattle.rail_catalogue.specs.Contents.{CatalogueView}
+use Rattle.catalogue_contents.specs.Contents.{CatalogueView}
 use Rattle.offer_codes.specs.declared.code.RefundCode.{RefundCode}
 use Rattle.refund_core.specs.declared.quoting.Quoted.{Quoted}
 use Rattle.refund_core.specs.declared.quoting.Quoted.TheVariants as quoted

@@ -14,7 +14,7 @@ use booking_rows::{RowView, look_row};
 use claim_rule::{Books, Desk};
 use history_model::phase::Phase;
 use offer_codes::VALID_SECONDS;
-use rail_catalogue::Catalogue;
+use catalogue_contents::Catalogue;
 use rail_ids::{RetailerNo, RowNo};
 use rail_time::Moment;
 use tariff::refund_value;

@@ -12,7 +12,7 @@ use crate::quotes::{find_booking, is_collected, refund_at};
 use claim_rule::{Books, Desk};
 use history_model::phase::Phase;
 use offer_codes::RefundCode;
-use rail_catalogue::Catalogue;
+use catalogue_contents::Catalogue;
 use rail_ids::{RetailerNo, RowNo};
 use rail_time::Moment;
 

@@ -12,7 +12,7 @@ use claim_rule::{Books, Desk};
 use confirm_core::end_row;
 use history_model::phase::Phase;
 use offer_codes::RefundCode;
-use rail_catalogue::Catalogue;
+use catalogue_contents::Catalogue;
 use rail_ids::RetailerNo;
 use rail_time::Moment;
 

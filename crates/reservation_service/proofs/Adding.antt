@@ -12,7 +12,7 @@ use Rattle.claim_rule.proofs.Shapes.{shape_then, shape_none}
 use Rattle.party_places.proofs.Steps.{IsSoOf, adds_all, party_all}
 use Rattle.offer_codes.specs.declared.code.Segment.{Segment}
 use Rattle.offer_codes.specs.Offers.{OfferView}
-use Rattle.rail_catalogue.specs.Contents.{CatalogueView}
+use Rattle.catalogue_contents.specs.Contents.{CatalogueView}
 use Rattle.reservation_service.specs.declared.holding.Placing.{Placing}
 use Rattle.reservation_service.specs.Holding.{count_of, candidates_in, party_at, AddsSegment, PlacesAll}
 

@@ -6,7 +6,7 @@ use Rattle.place_map.specs.Candidates.{candidates_of, AreRising}
 use Rattle.place_map.proofs.Numbers.{candidates_rise}
 use Rattle.offer_codes.specs.declared.code.Segment.{Segment}
 use Rattle.offer_codes.specs.Offers.{OfferView}
-use Rattle.rail_catalogue.specs.Contents.{CatalogueView}
+use Rattle.catalogue_contents.specs.Contents.{CatalogueView}
 use Rattle.history_model.specs.Lists.{Pairwise}
 use Rattle.hold_core.specs.Tries.{place_number}
 use Rattle.reservation_service.specs.Holding.{candidates_in}

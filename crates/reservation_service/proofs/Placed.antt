@@ -9,7 +9,7 @@ use Rattle.leg_masks.specs.Interval.{PlacedSpan as Item}
 use Rattle.history_model.specs.Booking.{most_items}
 use Rattle.offer_codes.specs.declared.code.Segment.{Segment}
 use Rattle.offer_codes.specs.Offers.{OfferView, is_party}
-use Rattle.rail_catalogue.specs.Contents.{CatalogueView}
+use Rattle.catalogue_contents.specs.Contents.{CatalogueView}
 use Rattle.place_map.specs.declared.coach.Place.{Place}
 use Rattle.place_map.specs.Candidates.{candidates_of}
 use Rattle.claim_rule.specs.Rule.{DeskView}

@@ -22,7 +22,7 @@ use Rattle.booking_rows.specs.Notes.{detail_notes}
 use Rattle.claim_rule.specs.Out.{MakesEmpty, IsSealedAs, SealsItems, IsIdle}
 use Rattle.shop.specs.Homes.{StaysHome}
 use Rattle.offer_codes.specs.Offers.{OfferView}
-use Rattle.rail_catalogue.specs.Contents.{CatalogueView}
+use Rattle.catalogue_contents.specs.Contents.{CatalogueView}
 use Rattle.osdm_texts.specs.declared.problem.Problem.{Problem}
 use Rattle.osdm_texts.specs.declared.problem.Problem.TheVariants as reason
 use Rattle.osdm_texts.specs.Answers.{Reply, created, problem, Told, refused, reply_told}

@@ -17,7 +17,7 @@ use Rattle.party_places.specs.Causes.{IsIn}
 use Rattle.party_places.proofs.Seated.{HasSeats, IsWhole, adds_seats, party_seats}
 use Rattle.offer_codes.specs.declared.code.Segment.{Segment}
 use Rattle.offer_codes.specs.Offers.{OfferView}
-use Rattle.rail_catalogue.specs.Contents.{CatalogueView}
+use Rattle.catalogue_contents.specs.Contents.{CatalogueView}
 use Rattle.reservation_service.specs.declared.holding.Placing.{Placing}
 use Rattle.reservation_service.specs.declared.holding.Placing.TheVariants.{Whole, Short, Contended}
 use Rattle.reservation_service.specs.Holding.{count_of, items_wanted, candidates_in, placing_of, placing_of_party, party_at, AddsSegment, In, AreOf}

@@ -7,7 +7,7 @@ use Rattle.rail_ids.specs.declared.RowNo.{RowNo}
 use Rattle.place_map.specs.Candidates.{candidates_of}
 use Rattle.offer_codes.specs.declared.code.Segment.{Segment}
 use Rattle.offer_codes.specs.Offers.{OfferView}
-use Rattle.rail_catalogue.specs.Contents.{CatalogueView}
+use Rattle.catalogue_contents.specs.Contents.{CatalogueView}
 use Rattle.history_model.specs.Lists.{Pairwise}
 use Rattle.claim_rule.specs.Rule.{DeskView}
 use Rattle.claim_rule.specs.Desks.{AddsSteps}

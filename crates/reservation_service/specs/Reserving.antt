@@ -6,7 +6,7 @@ use Rattle.rail_time.specs.Moments.{last_second}
 use Rattle.place_map.specs.declared.coach.Class.{Class}
 use Rattle.offer_codes.specs.declared.code.Segment.{Segment}
 use Rattle.offer_codes.specs.Offers.{OfferView}
-use Rattle.rail_catalogue.specs.Contents.{CatalogueView}
+use Rattle.catalogue_contents.specs.Contents.{CatalogueView}
 use Rattle.offer_prices.specs.Prices.{offer_price}
 use Rattle.history_model.specs.declared.entry.Step.TheVariants.{Seal}
 use Rattle.history_model.specs.declared.phase.Phase.TheVariants as phase

@@ -7,7 +7,7 @@ use Rattle.claim_rule.specs.Out.{HasNotedItems}
 use Rattle.offer_codes.specs.declared.code.Segment.{Segment}
 use Rattle.offer_codes.specs.declared.code.OfferCode.{OfferCode}
 use Rattle.offer_codes.specs.Offers.{OfferView, offer_view, is_party}
-use Rattle.rail_catalogue.specs.Contents.{CatalogueView}
+use Rattle.catalogue_contents.specs.Contents.{CatalogueView}
 use Rattle.offer_prices.specs.Runs.{is_of_runs}
 use Rattle.shop.specs.declared.Shop.{Shop}
 use Rattle.reservation_service.specs.declared.holding.Placing.{Placing}

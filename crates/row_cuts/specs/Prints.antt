@@ -9,7 +9,7 @@ use Rattle.place_map.specs.declared.coach.Place.{Place}
 use Rattle.train_runs.specs.declared.run.Stop.{Stop}
 use Rattle.train_runs.specs.Runs.{RunsView, code_of}
 use Rattle.train_runs.specs.Stops.{RunView}
-use Rattle.rail_catalogue.specs.Contents.{CatalogueView}
+use Rattle.catalogue_contents.specs.Contents.{CatalogueView}
 
 -- the station of a stop, by its code
 abbrev pub stop_text : RunsView → Stop → List ℕ

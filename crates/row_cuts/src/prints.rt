@@ -6,7 +6,7 @@ ghost use Rattle.row_cuts.specs.Prints.{runs_text, stop_text, stops_text};
 use cold_store::push_field;
 use journal_text::Sum;
 use place_map::{Class, Place};
-use rail_catalogue::Catalogue;
+use catalogue_contents::Catalogue;
 use rail_ids::RunNo;
 use std::alloc::{AllocError, Global};
 use train_runs::{Run, Runs, Stop};

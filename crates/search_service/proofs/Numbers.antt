@@ -12,7 +12,7 @@ use Rattle.place_map.specs.declared.coach.Place.{Place}
 use Rattle.place_map.specs.Places.{places_of}
 use Rattle.place_map.specs.Candidates.{is_candidate, numbers_of}
 use Rattle.history_model.specs.declared.entry.Step.{Step}
-use Rattle.rail_catalogue.specs.Contents.{CatalogueView, place_legs, legs_in}
+use Rattle.catalogue_contents.specs.Contents.{CatalogueView, place_legs, legs_in}
 use Rattle.availability.specs.Looks.{LooksAt}
 use Rattle.offer_engine.proofs.Candidates.{numbers_below}
 use Rattle.search_service.specs.Numbering.{in_turn}

@@ -11,7 +11,7 @@ use Rattle.train_runs.specs.Runs.{RunsView, most_runs}
 use Rattle.offer_codes.specs.declared.code.Segment.{Segment}
 use Rattle.offer_codes.specs.declared.code.Offer.{Offer}
 use Rattle.offer_codes.specs.Offers.{is_segment, is_party, is_offer}
-use Rattle.rail_catalogue.specs.Contents.{CatalogueView}
+use Rattle.catalogue_contents.specs.Contents.{CatalogueView}
 use Rattle.trip_builder.specs.declared.trip.TripWish.{TripWish}
 use Rattle.trip_builder.specs.Segments.{segment, segments_to, segments_from, segments_of, all_segments}
 use Rattle.trip_builder.specs.Order.{stands_before, sorted_in}

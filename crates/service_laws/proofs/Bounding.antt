@@ -46,7 +46,7 @@ use Rattle.expiry_sweeper.proofs.Sweeping.{sweeps_length}
 use Rattle.offer_codes.specs.declared.code.RefundCode.{RefundCode}
 use Rattle.offer_codes.specs.Offers.{OfferView}
 use Rattle.offer_codes.specs.Exchanges.{ExchangeView}
-use Rattle.rail_catalogue.specs.Contents.{CatalogueView}
+use Rattle.catalogue_contents.specs.Contents.{CatalogueView}
 use Rattle.osdm_texts.specs.Answers.{Reply}
 use Rattle.booking_service.specs.Deciding.{Replying, OnBooking, shows, ConfirmsFound, FulfilsFound, ReleasesFound}
 use Rattle.booking_service.specs.Sweeping.{SweepsRows}

@@ -11,7 +11,7 @@ use Rattle.claim_rule.specs.Calls.{AddsStepsBy}
 use Rattle.claim_rule.specs.Desks.{AddsSteps}
 use Rattle.booking_rows.specs.Views.{RowSeen}
 use Rattle.expiry_sweeper.specs.AllRows.{Sweeps}
-use Rattle.rail_catalogue.specs.Contents.{CatalogueView}
+use Rattle.catalogue_contents.specs.Contents.{CatalogueView}
 use Rattle.offer_codes.specs.declared.code.RefundCode.{RefundCode}
 use Rattle.offer_codes.specs.declared.code.ExchangeCode.{ExchangeCode}
 use Rattle.offer_codes.specs.Offers.{OfferView, offer_view}

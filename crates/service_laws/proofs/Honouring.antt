@@ -19,7 +19,7 @@ use Rattle.claim_rule.specs.Desks.{AddsSteps}
 use Rattle.booking_rows.specs.Aims.{LosesTurn}
 use Rattle.booking_rows.specs.Views.{RowSeen, LooksNone, saw_phase, saw_words, words_read}
 use Rattle.booking_rows.proofs.ViewLemmas.{sealed_not_free}
-use Rattle.rail_catalogue.specs.Contents.{CatalogueView, least_departure}
+use Rattle.catalogue_contents.specs.Contents.{CatalogueView, least_departure}
 use Rattle.tariff.specs.Refunds.{refund_of}
 use Rattle.offer_codes.specs.Offers.{valid_seconds}
 use Rattle.offer_codes.specs.Exchanges.{ExchangeView, exchange_view}

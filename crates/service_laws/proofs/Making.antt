@@ -41,7 +41,7 @@ use Rattle.booking_rows.specs.Notes.{detail_notes}
 use Rattle.booking_rows.specs.declared.notes.Detail.{Detail}
 use Rattle.offer_codes.specs.Offers.{OfferView}
 use Rattle.offer_codes.specs.declared.code.Segment.{Segment}
-use Rattle.rail_catalogue.specs.Contents.{CatalogueView}
+use Rattle.catalogue_contents.specs.Contents.{CatalogueView}
 use Rattle.osdm_texts.specs.Seen.{made_view}
 use Rattle.reservation_service.specs.Holding.{HoldsPlaces}
 use Rattle.reservation_service.specs.Reserving.{detail_of}

@@ -32,7 +32,7 @@ use Rattle.party_places.specs.declared.party.PartyAdded.TheVariants as party
 use Rattle.offer_codes.specs.declared.code.Segment.{Segment}
 use Rattle.offer_codes.specs.Offers.{OfferView, offer_view}
 use Rattle.offer_codes.specs.Exchanges.{ExchangeView, exchange_view}
-use Rattle.rail_catalogue.specs.Contents.{CatalogueView}
+use Rattle.catalogue_contents.specs.Contents.{CatalogueView}
 use Rattle.osdm_texts.specs.Answers.{Reply}
 use Rattle.reservation_service.specs.Holding.{AddsSegment, GivesUp, HoldsPlaces, PlacesAll, candidates_in, party_at}
 use Rattle.reservation_service.specs.Reserving.{FailsToHold, Reserves, detail_of, reserved}

@@ -3,7 +3,7 @@ use Rattle.std.specs.Prelude.{◌≡◌, ◌≤◌, ◌+◌, ℕ}
 use Rattle.rail_ids.specs.declared.RowNo.{RowNo}
 use Rattle.claim_rule.specs.Rule.{DeskView, state_seen}
 use Rattle.claim_rule.specs.Calls.{AddsStepsBy}
-use Rattle.rail_catalogue.specs.Contents.{CatalogueView}
+use Rattle.catalogue_contents.specs.Contents.{CatalogueView}
 use Rattle.offer_codes.specs.declared.code.RefundCode.{RefundCode}
 use Rattle.offer_codes.specs.declared.code.ExchangeCode.{ExchangeCode}
 use Rattle.offer_codes.specs.Offers.{OfferView, valid_seconds}

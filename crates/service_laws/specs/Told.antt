@@ -15,7 +15,7 @@ use Rattle.claim_rule.specs.Turns.{IsPresentIn}
 use Rattle.booking_rows.specs.Views.{RowSeen}
 use Rattle.refund_core.specs.Refunding.{IsRefunded}
 use Rattle.refund_core.specs.Releasing.{IsReleased}
-use Rattle.rail_catalogue.specs.Contents.{CatalogueView}
+use Rattle.catalogue_contents.specs.Contents.{CatalogueView}
 use Rattle.osdm_texts.specs.Answers.{Reply, booking, created, exchanged, problem}
 use Rattle.osdm_texts.specs.declared.problem.Problem.TheVariants.{UnknownBooking, NoMemory, WrongState}
 use Rattle.offer_codes.specs.declared.code.OfferCode.{OfferCode}

@@ -1,7 +1,7 @@
 -- The defined reply to a command, and that a booking has all its places or none.
 use Rattle.std.specs.Prelude.{◌≡◌, ℕ, Result, Ok, Err}
 use Rattle.offer_codes.specs.Offers.{offer_view}
-use Rattle.rail_catalogue.specs.Contents.{CatalogueView}
+use Rattle.catalogue_contents.specs.Contents.{CatalogueView}
 use Rattle.claim_rule.specs.Rule.{DeskView}
 use Rattle.claim_rule.specs.Out.{MakesEmpty}
 use Rattle.osdm_texts.specs.declared.problem.Problem.{Problem}

@@ -3,7 +3,7 @@ use Rattle.std.specs.Prelude.{◌≡◌, ◌≤◌, ℕ, ◌+◌, true, Result, 
 use Rattle.offer_codes.specs.Offers.{offer_view, is_party, is_offer, valid_seconds}
 use Rattle.offer_codes.specs.Refunds.{is_refund}
 use Rattle.offer_codes.specs.Exchanges.{exchange_view, is_exchange}
-use Rattle.rail_catalogue.specs.Contents.{CatalogueView}
+use Rattle.catalogue_contents.specs.Contents.{CatalogueView}
 use Rattle.offer_engine.specs.Codes.{is_offered}
 use Rattle.osdm_texts.specs.declared.problem.Problem.{Problem}
 use Rattle.osdm_json.specs.Readable.{IsWithinRun}

@@ -2,7 +2,7 @@
 use Rattle.std.specs.Prelude.{ℕ, []}
 use Rattle.offer_codes.specs.Offers.{offer_view}
 use Rattle.offer_codes.specs.Exchanges.{exchange_view}
-use Rattle.rail_catalogue.specs.Contents.{CatalogueView}
+use Rattle.catalogue_contents.specs.Contents.{CatalogueView}
 use Rattle.claim_rule.specs.Rule.{DeskView}
 use Rattle.claim_rule.specs.Desks.{AddsSteps}
 use Rattle.osdm_texts.specs.Answers.{Reply}

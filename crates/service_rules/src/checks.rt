@@ -8,7 +8,7 @@ use crate::order::Order;
 use offer_codes::{ExchangeCode, OfferCode, RefundCode, VALID_SECONDS};
 use offer_engine::{OfferWish, is_offered};
 use osdm_json::{Command, Problem};
-use rail_catalogue::Catalogue;
+use catalogue_contents::Catalogue;
 use rail_ids::RowNo;
 use rail_time::Moment;
 use reservation_service::Reservation;

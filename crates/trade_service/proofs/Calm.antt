@@ -14,7 +14,7 @@ use Rattle.booking_rows.specs.Views.{RowSeen}
 use Rattle.booking_rows.specs.Aims.{end_of}
 use Rattle.booking_rows.specs.declared.turns.Aim.TheVariants as aim
 use Rattle.booking_rows.proofs.Looked.{row_looked}
-use Rattle.rail_catalogue.specs.Contents.{CatalogueView}
+use Rattle.catalogue_contents.specs.Contents.{CatalogueView}
 use Rattle.offer_codes.specs.declared.code.RefundCode.{RefundCode}
 use Rattle.refund_core.specs.Quotes.{SeesOwn, SeesNone}
 use Rattle.refund_core.specs.Refunding.{QuotesRefund, LosesQuoted, AcceptsRefund}

@@ -13,7 +13,7 @@ use Rattle.claim_rule.specs.Out.{SealsItems, MakesEmpty}
 use Rattle.booking_rows.specs.declared.notes.Detail.{Detail}
 use Rattle.booking_rows.specs.Notes.{detail_notes}
 use Rattle.booking_rows.specs.Views.{RowSeen}
-use Rattle.rail_catalogue.specs.Contents.{CatalogueView}
+use Rattle.catalogue_contents.specs.Contents.{CatalogueView}
 use Rattle.offer_codes.specs.declared.code.ExchangeCode.{ExchangeCode}
 use Rattle.offer_codes.specs.Offers.{OfferView, is_offer, is_party}
 use Rattle.offer_codes.specs.Exchanges.{ExchangeView}

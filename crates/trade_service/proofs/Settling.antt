@@ -13,7 +13,7 @@ use Rattle.claim_rule.proofs.Out.{settled_append, settled_calm, makes_empty}
 use Rattle.shop.specs.Homes.{IsAtHome, StaysHome}
 use Rattle.booking_rows.specs.declared.notes.Detail.{Detail}
 use Rattle.booking_rows.specs.Notes.{detail_notes}
-use Rattle.rail_catalogue.specs.Contents.{CatalogueView}
+use Rattle.catalogue_contents.specs.Contents.{CatalogueView}
 use Rattle.offer_codes.specs.Offers.{OfferView}
 use Rattle.offer_codes.specs.Exchanges.{ExchangeView}
 use Rattle.exchange_core.specs.Exchanges.{QuotesExchange, Readies}

@@ -6,7 +6,7 @@ use Rattle.claim_rule.specs.Calls.{AddsStepsBy}
 use Rattle.booking_rows.specs.Views.{RowSeen}
 use Rattle.booking_rows.specs.Aims.{end_of}
 use Rattle.booking_rows.specs.declared.turns.Aim.TheVariants as aim
-use Rattle.rail_catalogue.specs.Contents.{CatalogueView}
+use Rattle.catalogue_contents.specs.Contents.{CatalogueView}
 use Rattle.offer_codes.specs.declared.code.RefundCode.{RefundCode}
 use Rattle.refund_core.specs.declared.quoting.Quoted.{Quoted}
 use Rattle.refund_core.specs.declared.quoting.Quoted.TheVariants as quoted

@@ -1,7 +1,7 @@
 use Rattle.std.proofs.Common.{ℕ, List, subst, sym}
 use Rattle.journal_text.specs.Rooms.{fold_view}
 use Rattle.cold_store.specs.Imports.{IsImportFault}
-use Rattle.rail_catalogue.specs.Contents.{legs_in}
+use Rattle.catalogue_contents.specs.Contents.{legs_in}
 use Rattle.host_catalogue.specs.Journals.{IsNotFolded}
 use Rattle.host_catalogue.specs.declared.journal.JournalRefusal.{JournalRefusal}
 use Rattle.host_catalogue.proofs.Folded.{not_opened}

@@ -5,7 +5,7 @@ use Rattle.claim_rule.specs.Rule.{most_place_legs}
 use Rattle.booking_rows.specs.SealedRows.{FitWords}
 use Rattle.history_model.specs.Booking.{most_rows}
 use Rattle.cold_store.specs.Imports.{IsImportFault, OpensAs}
-use Rattle.rail_catalogue.specs.Contents.{legs_in, place_legs}
+use Rattle.catalogue_contents.specs.Contents.{legs_in, place_legs}
 use Rattle.host_catalogue.specs.Opening.{new_layout}
 use Rattle.host_catalogue.proofs.Opened.{imported}
 use Rattle.host_catalogue.proofs.opening.import_text.Goals as goal

@@ -1,7 +1,7 @@
 use Rattle.std.proofs.Common.{◌≡◌, ◌∙◌, ◌+◌, ◌<◌, ℕ, List, ◌∷◌, length, drop, get_or, add-one, arith, refl}
 use Rattle.std.proofs.Math.Seq.{drop-cons}
 use Rattle.offer_codes.specs.declared.code.Segment.{Segment}
-use Rattle.rail_catalogue.specs.Contents.{CatalogueView}
+use Rattle.catalogue_contents.specs.Contents.{CatalogueView}
 use Rattle.osdm_texts.specs.Offers.{segment_tree, segment_trees}
 use Rattle.osdm_texts.proofs.Chains.{turned}
 use Rattle.osdm_texts.proofs.offers.put_segments.Goals as goal

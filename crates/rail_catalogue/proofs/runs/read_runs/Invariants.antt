@@ -1,6 +1,6 @@
 use Rattle.std.proofs.Common.{◌≡◌, ◌+◌, is_some, true, length}
 use Rattle.json_text.specs.Ahead.{ahead}
-use Rattle.rail_catalogue.specs.Contents.{IsWhole}
+use Rattle.catalogue_contents.specs.Contents.{IsWhole}
 use Rattle.rail_catalogue.specs.Format.{network_from}
 use Rattle.rail_catalogue.specs.Networks.{network_view, start_of}
 use Rattle.rail_catalogue.specs.Listed.{all_ahead}

@@ -1,6 +1,6 @@
 use Rattle.std.proofs.Common.{◌≡◌, ◌∙◌, ◌==◌, ℕ, List, length, refl, sym, ap}
 use Rattle.rail_ids.specs.declared.PlaceNo.{PlaceNo}
-use Rattle.rail_catalogue.specs.Contents.{CatalogueView}
+use Rattle.catalogue_contents.specs.Contents.{CatalogueView}
 use Rattle.place_map.specs.declared.coach.Place.{Place}
 use Rattle.place_map.specs.Candidates.{numbers_of}
 use Rattle.shop.proofs.Homes.{stays}

@@ -14,7 +14,7 @@ use Rattle.std.proofs.lemmas.Map.Lookups.{exact_bytes}
 use Rattle.std.proofs.lemmas.Map.Text.{is_eq-slice_cmp}
 use Rattle.std.proofs.lemmas.List.Folds.{list_any-append}
 use Rattle.rail_ids.specs.declared.RetailerNo.{RetailerNo}
-use Rattle.rail_catalogue.specs.Retailers.{RetailerView, has_number, retailer_with}
+use Rattle.catalogue_contents.specs.Retailers.{RetailerView, has_number, retailer_with}
 
 abbrev pub Key : Type 0
 Key = Vec ℕ Global

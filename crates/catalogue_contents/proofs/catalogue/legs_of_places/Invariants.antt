@@ -1,6 +1,6 @@
 use Rattle.std.proofs.Common.{◌≡◌, All, map, take}
-use Rattle.rail_catalogue.specs.Contents.{place_legs, IsNumberOfLegs}
-use Rattle.rail_catalogue.proofs.catalogue.legs_of_places.Given as goal
+use Rattle.catalogue_contents.specs.Contents.{place_legs, IsNumberOfLegs}
+use Rattle.catalogue_contents.proofs.catalogue.legs_of_places.Given as goal
 
 abbrev pub invariant-loop-place : goal.invariant-loop-place
 invariant-loop-place l = record {

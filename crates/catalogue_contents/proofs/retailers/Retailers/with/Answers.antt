@@ -4,9 +4,9 @@ use Rattle.std.specs.Map.{lookup}
 use Rattle.std.specs.Ordering.{nat_cmp, is_eq}
 use Rattle.std.specs.Cmp.Lexicographic.{slice_cmp}
 use Rattle.rail_ids.specs.declared.RetailerNo.{RetailerNo}
-use Rattle.rail_catalogue.specs.Retailers.{RetailerView, retailer_with, has_number}
-use Rattle.rail_catalogue.proofs.Indexes.{Key, at, lookup-insert_entry, retailer_with-last, list_any-insert_key, has_number-last}
-use Rattle.rail_catalogue.proofs.retailers.Retailers.with.Goals as goal
+use Rattle.catalogue_contents.specs.Retailers.{RetailerView, retailer_with, has_number}
+use Rattle.catalogue_contents.proofs.Indexes.{Key, at, lookup-insert_entry, retailer_with-last, list_any-insert_key, has_number-last}
+use Rattle.catalogue_contents.proofs.retailers.Retailers.with.Goals as goal
 
 pub invariant_of-result : goal.invariant_of-result
 invariant_of-result c =

@@ -2,11 +2,12 @@ ghost use Rattle.std.specs.Prelude.{◌≡◌, ◌≤◌, ◌<◌, All, IfOk, If
 ghost use Rattle.leg_masks.specs.Interval.{most_places};
 ghost use Rattle.place_map.specs.Places.{run_number};
 ghost use Rattle.rail_time.specs.Moments.{last_second};
-ghost use Rattle.rail_catalogue.specs.Retailers.{retailer_with};
-ghost use Rattle.rail_catalogue.specs.Contents.{IsWhole, IsNumberOfLegs, fare_in, place_legs, legs_in, departure_at as departure_at_of, departure_from as departure_from_of, departure_of, least_departure};
+ghost use Rattle.catalogue_contents.specs.Retailers.{retailer_with};
+ghost use Rattle.catalogue_contents.specs.Contents.{IsWhole, IsNumberOfLegs, fare_in, place_legs, legs_in, departure_at as departure_at_of, departure_from as departure_from_of, departure_of, least_departure};
 
+use crate::fares::Fares;
+use crate::network::Network;
 use crate::retailers::Retailers;
-use crate::runs::Network;
 use leg_masks::Item;
 use place_map::{Class, Place, PlaceMap};
 use rail_ids::{PlaceNo, RetailerNo, RunNo};
@@ -15,42 +16,6 @@ use std::alloc::{AllocError, Global};
 use std::marker::Model;
 use tariff::{Fare, Terms};
 use train_runs::{Runs, Stop};
-
-/// The fares of a run.
-#[derive(Clone, Copy, PartialEq, Eq)]
-pub(crate) struct Fares {
-    first: Fare,
-    second: Fare,
-}
-
-impl Model for Fares {
-    ghost use Rattle.rail_catalogue.specs.Stops.{FaresView};
-
-    ghost Value = { FaresView };
-
-    ghost view = { λ f. record { first = f.first; second = f.second } };
-
-    ghost inverse = { λ n. record { first = n.first; second = n.second } };
-}
-
-impl Fares {
-    /// The fares of both classes.
-    pub(crate) fn new(first: Fare, second: Fare) -> Fares
-        ensures { result ≡ record { first = first; second = second } }
-    {
-        Fares { first, second }
-    }
-
-    // The fare of a class.
-    fn of(self, class: Class) -> Fare
-        ensures { result ≡ fare_in class self }
-    {
-        match class {
-            Class::First => self.first,
-            Class::Second => self.second,
-        }
-    }
-}
 
 /// All that is sold. Contracts see it as a `CatalogueView`.
 #[derive(Drop)]
@@ -66,7 +31,7 @@ pub struct Catalogue {
 
 impl Model for Catalogue {
     ghost use Rattle.std.specs.Prelude.{◌≡◌, ◌≤◌, string_bytes, length};
-    ghost use Rattle.rail_catalogue.specs.Contents.{CatalogueView, IsWhole};
+    ghost use Rattle.catalogue_contents.specs.Contents.{CatalogueView, IsWhole};
 
     ghost Value = { CatalogueView };
 
@@ -85,8 +50,8 @@ impl Model for Catalogue {
 }
 
 impl Catalogue {
-    // The catalogue of these parts.
-    pub(crate) fn new(
+    /// The catalogue of these parts.
+    pub fn new(
         currency: String,
         rows: u32,
         retailers: Retailers,

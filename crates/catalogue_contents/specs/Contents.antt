@@ -12,8 +12,12 @@ use Rattle.place_map.specs.Places.{run_number}
 use Rattle.train_runs.specs.declared.run.Stop.{Stop}
 use Rattle.train_runs.specs.Stops.{legs_of}
 use Rattle.train_runs.specs.Runs.{RunsView}
-use Rattle.rail_catalogue.specs.Retailers.{RetailerView}
-use Rattle.rail_catalogue.specs.Stops.{FaresView}
+use Rattle.catalogue_contents.specs.Retailers.{RetailerView}
+
+-- the fares of a run, by class
+pub record FaresView : Type 0 where
+  pub first : FareAmounts
+  pub second : FareAmounts
 
 pub record CatalogueView : Type 0 where
   pub currency : List ℕ

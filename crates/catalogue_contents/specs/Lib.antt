@@ -1,0 +1,2 @@
+pub mod Retailers
+pub mod Contents
