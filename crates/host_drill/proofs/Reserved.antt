@@ -6,7 +6,7 @@ use Rattle.rail_ids.specs.declared.StationNo.{StationNo}
 use Rattle.rail_ids.specs.declared.RunNo.{RunNo}
 use Rattle.leg_masks.specs.Interval.{Interval}
 use Rattle.place_map.specs.declared.coach.Class.TheVariants.{Second}
-use Rattle.offer_codes.specs.declared.code.Segment.{Segment}
+use Rattle.train_runs.specs.declared.segment.Segment.{Segment}
 use Rattle.train_runs.specs.Stations.{station_with}
 use Rattle.train_runs.specs.Stops.{RunView}
 use Rattle.train_runs.specs.Runs.{span_of}

@@ -1,7 +1,7 @@
 -- What a worker's requests did, one after the other, and what each was answered.
 use Rattle.std.specs.Prelude.{◌≡◌, ◌⊎◌, ℕ, ◌+◌, ◌*◌, ◌==◌, false, List, [], ◌∷◌, ◌++◌, length}
 use Rattle.place_map.specs.declared.coach.Class.TheVariants.{Second}
-use Rattle.offer_codes.specs.declared.code.Segment.{Segment}
+use Rattle.train_runs.specs.declared.segment.Segment.{Segment}
 use Rattle.history_model.specs.declared.entry.Step.{Step}
 use Rattle.claim_rule.specs.Rule.{DeskView}
 use Rattle.claim_rule.specs.Desks.{AddsSteps}

@@ -8,7 +8,7 @@ use Rattle.place_map.specs.declared.coach.Class.TheVariants.{First, Second}
 use Rattle.offer_codes.specs.Marked.{numbers_in}
 use Rattle.offer_codes.specs.Offers.{OfferView, is_segment, is_offer, is_party, segments_marks, offer_marks, offer_text, class_number}
 use Rattle.offer_codes.specs.Found.{segments_from, offer_from, class_from}
-use Rattle.offer_codes.specs.declared.code.Segment.{Segment}
+use Rattle.train_runs.specs.declared.segment.Segment.{Segment}
 use Rattle.offer_codes.proofs.Runs.{IsMark, AreMarks, numbers_in-marked}
 
 pub both : (a b : Bool) → (a && b) ≡ true → (a ≡ true) × (b ≡ true)

@@ -7,7 +7,7 @@ use Rattle.std.proofs.lemmas.Bool.Decides.{nat_tests}
 use Rattle.offer_codes.specs.Marked.{marked}
 use Rattle.offer_codes.specs.Found.{has}
 use Rattle.offer_codes.specs.Offers.{OfferView, segments_marks, offer_marks}
-use Rattle.offer_codes.specs.declared.code.Segment.{Segment}
+use Rattle.train_runs.specs.declared.segment.Segment.{Segment}
 use Rattle.offer_codes.proofs.Runs.{AreMarks}
 
 -- a letter that is no digit

@@ -8,7 +8,7 @@ use Rattle.offer_codes.specs.Rows.{is_row}
 use Rattle.offer_codes.specs.Offers.{OfferView, is_segment, is_offer}
 use Rattle.offer_codes.specs.Refunds.{is_refund}
 use Rattle.offer_codes.specs.Exchanges.{ExchangeView, is_exchange}
-use Rattle.offer_codes.specs.declared.code.Segment.{Segment}
+use Rattle.train_runs.specs.declared.segment.Segment.{Segment}
 use Rattle.offer_codes.specs.declared.code.RefundCode.{RefundCode}
 
 abbrev pub class_from : ℕ → Option Class

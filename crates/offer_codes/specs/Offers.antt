@@ -5,7 +5,7 @@ use Rattle.std.specs.List.{list_all}
 use Rattle.place_map.specs.declared.coach.Class.{Class}
 use Rattle.place_map.specs.declared.coach.Class.TheVariants.{First, Second}
 use Rattle.offer_codes.specs.Marked.{marked}
-use Rattle.offer_codes.specs.declared.code.Segment.{Segment}
+use Rattle.train_runs.specs.declared.segment.Segment.{Segment}
 use Rattle.offer_codes.specs.declared.code.OfferCode.{OfferCode}
 
 -- an offer, as contracts see it

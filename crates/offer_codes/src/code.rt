@@ -1,30 +1,14 @@
 use arrayvec::ArrayVec;
-use leg_masks::Span;
 use place_map::Class;
-use rail_ids::{RowNo, RunNo};
+use rail_ids::RowNo;
 use rail_time::Moment;
+use train_runs::Segment;
 
 /// How many passengers an offer is for at most.
 pub const MOST_PASSENGERS: u8 = 8;
 
 /// For how many seconds an offer and a quote stand.
 pub const VALID_SECONDS: u32 = 900;
-
-/// A stretch of one run that a trip travels.
-#[derive(Clone, Copy, PartialEq, Eq)]
-pub struct Segment {
-    pub run: RunNo,
-    pub span: Span,
-}
-
-impl Default for Segment {
-    fn default() -> Self {
-        Segment {
-            run: RunNo(0),
-            span: Span::default(),
-        }
-    }
-}
 
 /// What an offer's id spells: who travels, in which class, with which traits of a place, and the trip.
 #[derive(Drop)]

@@ -11,9 +11,8 @@ mod numbers;
 mod offer;
 mod refund;
 
-pub use code::{
-    ExchangeCode, MOST_PASSENGERS, Offer, OfferCode, RefundCode, Segment, VALID_SECONDS,
-};
+pub use code::{ExchangeCode, MOST_PASSENGERS, Offer, OfferCode, RefundCode, VALID_SECONDS};
 pub use exchange::{read_exchange, write_exchange};
 pub use offer::{read_offer, write_offer};
 pub use refund::{read_refund, write_refund};
+pub use train_runs::Segment;

@@ -3,16 +3,17 @@ ghost use Rattle.std.specs.List.{list_all};
 ghost use Rattle.arrayvec.specs.ArrayVec.{array_vec_len};
 ghost use Rattle.offer_codes.specs.Marked.{marked, IsSpelling, ReadsAny};
 ghost use Rattle.offer_codes.specs.Offers.{offer_view, offer_text, offer_marks, is_offer, is_party as is_party_of, is_segment, segment_marks, segments_marks, class_number, most_passengers};
-ghost use Rattle.offer_codes.specs.declared.code.Segment.{Segment};
+ghost use Rattle.train_runs.specs.declared.segment.Segment.{Segment};
 ghost use Rattle.offer_codes.specs.Found.{offer_from, segments_from, segment_value, class_from};
 
-use crate::code::{MOST_PASSENGERS, OfferCode, Segment};
+use crate::code::{MOST_PASSENGERS, OfferCode};
 use crate::numbers::{numbers, push_number};
 use arrayvec::ArrayVec;
 use leg_masks::{MOST_LEGS, Span};
 use place_map::Class;
 use rail_ids::RunNo;
 use rail_time::Moment;
+use train_runs::Segment;
 
 /// The offer's id.
 pub fn write_offer(code: &OfferCode) -> ArrayVec<u8, 128>

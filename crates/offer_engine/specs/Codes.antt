@@ -1,7 +1,7 @@
 -- Which offers the catalogue has.
 use Rattle.std.specs.Prelude.{ℕ, ◌==◌, ◌&&◌, nat_le, nat_lt, not, Bool, List, length}
 use Rattle.std.specs.List.{list_all}
-use Rattle.offer_codes.specs.declared.code.Segment.{Segment}
+use Rattle.train_runs.specs.declared.segment.Segment.{Segment}
 use Rattle.offer_codes.specs.Offers.{OfferView}
 use Rattle.train_runs.specs.Runs.{RunsView}
 use Rattle.catalogue_contents.specs.Contents.{CatalogueView}

@@ -3,12 +3,12 @@ use Rattle.std.specs.Prelude.{◌≡◌, ℕ, max, List, [], ◌∷◌, ◌++◌
 use Rattle.std.specs.List.{flat_map}
 use Rattle.rail_ids.specs.declared.PlaceNo.{PlaceNo}
 use Rattle.place_map.specs.Candidates.{candidates_of}
-use Rattle.offer_codes.specs.declared.code.Segment.{Segment}
+use Rattle.train_runs.specs.declared.segment.Segment.{Segment}
 use Rattle.offer_codes.specs.declared.code.Offer.{Offer}
 use Rattle.offer_codes.specs.Offers.{OfferView, offer_view}
 use Rattle.catalogue_contents.specs.Contents.{CatalogueView}
 use Rattle.offer_prices.specs.Prices.{offer_price}
-use Rattle.trip_builder.specs.declared.trip.TripWish.{TripWish}
+use Rattle.train_runs.specs.declared.wish.TripWish.{TripWish}
 use Rattle.history_model.specs.declared.entry.Step.{Step}
 use Rattle.availability.specs.Looks.{CountsFree}
 use Rattle.offer_engine.specs.declared.wish.OfferWish.{OfferWish}

@@ -3,7 +3,7 @@ use Rattle.std.specs.Prelude.{ℕ, ◌-◌, slice_get, sum_by}
 use Rattle.std.specs.Option.{option_map_or}
 use Rattle.place_map.specs.declared.coach.Class.{Class}
 use Rattle.tariff.specs.Prices.{FareAmounts, price_of}
-use Rattle.offer_codes.specs.declared.code.Segment.{Segment}
+use Rattle.train_runs.specs.declared.segment.Segment.{Segment}
 use Rattle.offer_codes.specs.Offers.{OfferView}
 use Rattle.catalogue_contents.specs.Contents.{CatalogueView, fare_in}
 

@@ -4,8 +4,8 @@ ghost use Rattle.offer_codes.specs.Offers.{is_party, offer_view};
 ghost use Rattle.tariff.specs.Prices.{greatest_price};
 ghost use Rattle.offer_prices.specs.Prices.{offer_price, segment_price};
 
-use offer_codes::{OfferCode, Segment};
 use catalogue_contents::Catalogue;
+use offer_codes::{OfferCode, Segment};
 use tariff::{Fare, price};
 
 /// The price of an offer's segments for all its passengers, in minor units. A segment of no run of the catalogue costs

@@ -1,8 +1,8 @@
 -- What a request asks, with its ids and codes as the texts that stand in it.
 use Rattle.std.specs.Prelude.{ℕ, Bool, List}
 use Rattle.place_map.specs.declared.coach.Class.{Class}
-use Rattle.offer_codes.specs.declared.code.Segment.{Segment}
-use Rattle.trip_builder.specs.declared.trip.TripWish.{TripWish}
+use Rattle.train_runs.specs.declared.segment.Segment.{Segment}
+use Rattle.train_runs.specs.declared.wish.TripWish.{TripWish}
 
 pub data Asked : Type 0 where
   offers : TripWish → ℕ → ℕ → Class → ℕ → Asked

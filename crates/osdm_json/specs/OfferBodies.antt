@@ -4,7 +4,7 @@ use Rattle.serde_json.specs.Data.{Data}
 use Rattle.serde_json.specs.Find.{get}
 use Rattle.offer_codes.specs.Offers.{is_party}
 use Rattle.train_runs.specs.Stations.{station_with}
-use Rattle.trip_builder.specs.declared.trip.TripWish.{TripWish}
+use Rattle.train_runs.specs.declared.wish.TripWish.{TripWish}
 use Rattle.rail_catalogue.specs.Json.{whole_in, whole_or, text_of}
 use Rattle.catalogue_contents.specs.Contents.{CatalogueView}
 use Rattle.osdm_texts.specs.declared.field.FieldName.TheVariants.{Adults, Children, Class, Wanted, Origin, Destination, Earliest, Latest}

@@ -5,7 +5,7 @@ use Rattle.serde_json.specs.Data.{Data}
 use Rattle.serde_json.specs.Find.{get}
 use Rattle.leg_masks.specs.Interval.{Interval}
 use Rattle.rail_ids.specs.declared.RunNo.{RunNo}
-use Rattle.offer_codes.specs.declared.code.Segment.{Segment}
+use Rattle.train_runs.specs.declared.segment.Segment.{Segment}
 use Rattle.train_runs.specs.Stations.{station_with}
 use Rattle.train_runs.specs.Stops.{RunView}
 use Rattle.train_runs.specs.Runs.{span_of}

@@ -1,12 +1,12 @@
 -- What holds of each command that was read, for the service's conditions.
 use Rattle.std.specs.Prelude.{◌≡◌, ◌≢◌, ◌≤◌, ◌<◌, true, length, IfSome, slice_get, Some}
 use Rattle.rail_time.specs.Moments.{last_second}
-use Rattle.offer_codes.specs.declared.code.Segment.{Segment}
+use Rattle.train_runs.specs.declared.segment.Segment.{Segment}
 use Rattle.offer_codes.specs.Offers.{offer_view, is_offer, is_party}
 use Rattle.offer_codes.specs.Refunds.{is_refund}
 use Rattle.offer_codes.specs.Exchanges.{exchange_view, is_exchange}
 use Rattle.train_runs.specs.Stops.{RunView, legs_of}
-use Rattle.trip_builder.specs.declared.trip.TripWish.{TripWish}
+use Rattle.train_runs.specs.declared.wish.TripWish.{TripWish}
 use Rattle.catalogue_contents.specs.Contents.{CatalogueView}
 use Rattle.osdm_json.specs.declared.command.Command.{Command}
 use Rattle.osdm_json.specs.declared.command.Command.TheVariants as command

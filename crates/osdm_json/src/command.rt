@@ -1,7 +1,7 @@
 use offer_codes::{ExchangeCode, OfferCode, RefundCode, Segment};
 use place_map::Class;
 use rail_ids::RowNo;
-use trip_builder::TripWish;
+use train_runs::TripWish;
 
 /// What a retailer asks. An id or a code that is no spelling is `None`.
 #[derive(Drop)]

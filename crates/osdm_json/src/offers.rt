@@ -16,7 +16,7 @@ use osdm_texts::FieldName;
 use rail_catalogue::{Catalogue, whole_in, whole_or};
 use rail_time::Moment;
 use std::alloc::Global;
-use trip_builder::TripWish;
+use train_runs::TripWish;
 
 // Who travels.
 #[derive(Clone, Copy)]

@@ -14,9 +14,9 @@ use crate::orders::{
 use crate::route::Route;
 use crate::spellings::row_of;
 use crate::stretches::{read_places, read_reserve};
+use catalogue_contents::Catalogue;
 use json_text::{Scratch, Value};
 use osdm_texts::FieldName;
-use catalogue_contents::Catalogue;
 use std::alloc::Global;
 
 /// Memory for the reading of bodies. What one took serves the next.

@@ -3,7 +3,7 @@ use Rattle.std.specs.Prelude.{◌≡◌, ℕ, pos, ◌+◌, min, true, List, [],
 use Rattle.serde_json.specs.Data.{Data, string, array, object, no_members, member}
 use Rattle.serde_json.specs.View.{items_of}
 use Rattle.rail_time.specs.Moments.{last_second}
-use Rattle.offer_codes.specs.declared.code.Segment.{Segment}
+use Rattle.train_runs.specs.declared.segment.Segment.{Segment}
 use Rattle.offer_codes.specs.declared.code.Offer.{Offer}
 use Rattle.offer_codes.specs.Offers.{offer_view, is_offer, valid_seconds}
 use Rattle.catalogue_contents.specs.Contents.{CatalogueView}

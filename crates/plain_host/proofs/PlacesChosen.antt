@@ -9,7 +9,7 @@ use Rattle.leg_masks.specs.Interval.{Interval, items_at, pieces, PlacedSpan as I
 use Rattle.place_map.specs.declared.coach.Place.{Place}
 use Rattle.place_map.specs.Candidates.{candidates_of, IsOfRun}
 use Rattle.place_map.proofs.Numbers.{candidates_of_run}
-use Rattle.offer_codes.specs.declared.code.Segment.{Segment}
+use Rattle.train_runs.specs.declared.segment.Segment.{Segment}
 use Rattle.offer_codes.specs.Offers.{OfferView}
 use Rattle.catalogue_contents.specs.Contents.{CatalogueView}
 use Rattle.history_model.specs.Booking.{State}

@@ -10,15 +10,15 @@ use Rattle.place_map.specs.declared.coach.Place.{Place}
 use Rattle.place_map.specs.Candidates.{IsOfRun, candidates_of, numbers_of}
 use Rattle.place_map.proofs.Numbers.{candidates_of_run}
 use Rattle.train_runs.specs.declared.run.Stop.{Stop}
-use Rattle.train_runs.specs.Runs.{RunsView}
+use Rattle.train_runs.specs.Runs.{RunsView, stops_of}
 use Rattle.train_runs.specs.Stops.{RunView, legs_of}
-use Rattle.trip_builder.specs.declared.trip.TripWish.{TripWish}
+use Rattle.train_runs.specs.declared.wish.TripWish.{TripWish}
 use Rattle.trip_builder.specs.Order.{sorted_in}
-use Rattle.trip_builder.specs.Segments.{IsKnown, all_segments, stops_of}
+use Rattle.trip_builder.specs.Segments.{IsKnown, all_segments}
 use Rattle.trip_builder.specs.Trips.{all_lists, is_trip, most_trips, trips_of}
 use Rattle.trip_builder.proofs.AllLists.{have_lists}
 use Rattle.trip_builder.proofs.FirstSixteen.{all_among, all_put}
-use Rattle.offer_codes.specs.declared.code.Segment.{Segment}
+use Rattle.train_runs.specs.declared.segment.Segment.{Segment}
 use Rattle.offer_codes.specs.Offers.{OfferView, is_segment, is_offer, is_party}
 use Rattle.catalogue_contents.specs.Contents.{CatalogueView, place_legs, legs_in}
 use Rattle.history_model.proofs.ListLemmas.{All-map}

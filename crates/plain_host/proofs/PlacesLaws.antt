@@ -8,7 +8,7 @@ use Rattle.rail_ids.specs.declared.RowNo.{RowNo}
 use Rattle.train_runs.specs.Runs.{RunsView}
 use Rattle.trip_builder.specs.Segments.{first_of, last_of, first_stop, last_stop}
 use Rattle.trip_builder.specs.Trips.{trips_of, uses_run, connects, follows, is_chain, are_connected}
-use Rattle.offer_codes.specs.declared.code.Segment.{Segment}
+use Rattle.train_runs.specs.declared.segment.Segment.{Segment}
 use Rattle.offer_codes.specs.declared.code.OfferCode.{OfferCode}
 use Rattle.offer_codes.specs.Offers.{OfferView, offer_view}
 use Rattle.catalogue_contents.specs.Contents.{CatalogueView}

@@ -4,7 +4,7 @@ use Rattle.std.specs.Prelude.{◌⊎◌, ◌↔◌, IsTrue, count_by, fold}
 use Rattle.std.specs.List.{AllByRecursion}
 use Rattle.leg_masks.specs.Interval.{Interval, pieces}
 use Rattle.rail_ids.specs.declared.PlaceNo.{PlaceNo}
-use Rattle.offer_codes.specs.declared.code.Segment.{Segment}
+use Rattle.train_runs.specs.declared.segment.Segment.{Segment}
 use Rattle.offer_codes.specs.declared.code.Offer.{Offer}
 use Rattle.offer_codes.specs.declared.code.OfferCode.{OfferCode}
 use Rattle.catalogue_contents.specs.Contents.{CatalogueView}

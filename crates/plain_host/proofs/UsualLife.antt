@@ -11,7 +11,7 @@ use Rattle.place_map.specs.declared.coach.Class.TheVariants.{First, Second}
 use Rattle.place_map.specs.declared.coach.Place.{Place}
 use Rattle.train_runs.specs.declared.run.Stop.{Stop}
 use Rattle.tariff.specs.Prices.{FareAmounts}
-use Rattle.offer_codes.specs.declared.code.Segment.{Segment}
+use Rattle.train_runs.specs.declared.segment.Segment.{Segment}
 use Rattle.offer_codes.specs.Offers.{OfferView}
 use Rattle.catalogue_contents.specs.Contents.{CatalogueView}
 use Rattle.osdm_texts.specs.declared.problem.Problem.TheVariants.{NoPlace, RowsFull, TooLate, WrongState, UnknownBooking}

@@ -8,7 +8,7 @@ use Rattle.rail_ids.specs.Spelling.{last_generation}
 use Rattle.rail_ids.specs.declared.RowNo.{RowNo}
 use Rattle.history_model.specs.Phase.{word_of_phase, is_live, is_ended}
 use Rattle.booking_rows.specs.Views.{RowSeen}
-use Rattle.offer_codes.specs.declared.code.Segment.{Segment}
+use Rattle.train_runs.specs.declared.segment.Segment.{Segment}
 use Rattle.offer_codes.specs.Offers.{OfferView}
 use Rattle.catalogue_contents.specs.Contents.{CatalogueView}
 use Rattle.place_map.specs.declared.coach.Place.{Place}

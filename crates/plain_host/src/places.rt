@@ -17,7 +17,7 @@ ghost use Rattle.lone_desk.specs.Lone.{entries_of};
 ghost use Rattle.lone_desk.specs.Decided.{IsFreeAt, HasClearWords};
 ghost use Rattle.offer_engine.specs.declared.wish.OfferWish.{OfferWish};
 ghost use Rattle.reservation_service.specs.declared.booking.Reservation.{Reservation};
-ghost use Rattle.offer_codes.specs.declared.code.Segment.{Segment};
+ghost use Rattle.train_runs.specs.declared.segment.Segment.{Segment};
 ghost use Rattle.rail_ids.specs.declared.RowNo.{RowNo};
 ghost use Rattle.offer_codes.specs.declared.code.OfferCode.{OfferCode};
 ghost use Rattle.offer_codes.specs.declared.code.ExchangeCode.{ExchangeCode};

@@ -14,7 +14,7 @@ use Rattle.booking_rows.specs.Views.{RowSeen}
 use Rattle.booking_rows.proofs.Looked.{row_looked}
 use Rattle.booking_rows.proofs.ViewLemmas.{looks_append}
 use Rattle.availability.specs.Looks.{LooksPieces, LooksAt}
-use Rattle.offer_codes.specs.declared.code.Segment.{Segment}
+use Rattle.train_runs.specs.declared.segment.Segment.{Segment}
 use Rattle.offer_codes.specs.declared.code.Offer.{Offer}
 use Rattle.offer_codes.specs.Offers.{OfferView, offer_view}
 use Rattle.catalogue_contents.specs.Contents.{CatalogueView}

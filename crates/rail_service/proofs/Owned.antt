@@ -2,7 +2,7 @@
 use Rattle.std.proofs.Common.{◌≡◌, ℕ, Bool, false, List, [], ◌++◌, Ok, Err, sym, subst, inl, inr}
 use Rattle.std.specs.Prelude.{Result}
 use Rattle.leg_masks.specs.Interval.{PlacedSpan as Item}
-use Rattle.offer_codes.specs.declared.code.Segment.{Segment}
+use Rattle.train_runs.specs.declared.segment.Segment.{Segment}
 use Rattle.offer_codes.specs.Offers.{OfferView, offer_view}
 use Rattle.offer_codes.specs.Exchanges.{ExchangeView, exchange_view}
 use Rattle.booking_rows.specs.declared.notes.Detail.{Detail}

@@ -10,7 +10,7 @@ use Rattle.claim_rule.specs.Rule.{DeskView}
 use Rattle.claim_rule.specs.Calls.{AddsStepsBy}
 use Rattle.claim_rule.proofs.Shapes.{shape_then, shape_none}
 use Rattle.party_places.proofs.Steps.{IsSoOf, adds_all, party_all}
-use Rattle.offer_codes.specs.declared.code.Segment.{Segment}
+use Rattle.train_runs.specs.declared.segment.Segment.{Segment}
 use Rattle.offer_codes.specs.Offers.{OfferView}
 use Rattle.catalogue_contents.specs.Contents.{CatalogueView}
 use Rattle.reservation_service.specs.declared.holding.Placing.{Placing}

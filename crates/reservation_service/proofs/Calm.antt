@@ -14,7 +14,7 @@ use Rattle.claim_rule.proofs.Out.{tidy_through, settled_calm}
 use Rattle.booking_rows.specs.Starts.{Misses, misses_steps, Passed, search_steps, StartsHold}
 use Rattle.hold_core.specs.Places.{gives_back}
 use Rattle.party_places.proofs.Steps.{IsSoOf, gives_all}
-use Rattle.offer_codes.specs.declared.code.Segment.{Segment}
+use Rattle.train_runs.specs.declared.segment.Segment.{Segment}
 use Rattle.offer_codes.specs.Offers.{OfferView}
 use Rattle.catalogue_contents.specs.Contents.{CatalogueView}
 use Rattle.osdm_texts.specs.Answers.{Reply}

@@ -4,7 +4,7 @@ use Rattle.std.specs.List.{AllByRecursion}
 use Rattle.rail_ids.specs.declared.PlaceNo.{PlaceNo}
 use Rattle.place_map.specs.Candidates.{candidates_of, AreRising}
 use Rattle.place_map.proofs.Numbers.{candidates_rise}
-use Rattle.offer_codes.specs.declared.code.Segment.{Segment}
+use Rattle.train_runs.specs.declared.segment.Segment.{Segment}
 use Rattle.offer_codes.specs.Offers.{OfferView}
 use Rattle.catalogue_contents.specs.Contents.{CatalogueView}
 use Rattle.history_model.specs.Lists.{Pairwise}

@@ -7,7 +7,7 @@ use Rattle.std.proofs.lemmas.Bool.{leb-true}
 use Rattle.std.proofs.lemmas.List.{take_more}
 use Rattle.leg_masks.specs.Interval.{PlacedSpan as Item}
 use Rattle.history_model.specs.Booking.{most_items}
-use Rattle.offer_codes.specs.declared.code.Segment.{Segment}
+use Rattle.train_runs.specs.declared.segment.Segment.{Segment}
 use Rattle.offer_codes.specs.Offers.{OfferView, is_party}
 use Rattle.catalogue_contents.specs.Contents.{CatalogueView}
 use Rattle.place_map.specs.declared.coach.Place.{Place}

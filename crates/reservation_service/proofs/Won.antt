@@ -15,7 +15,7 @@ use Rattle.party_places.specs.declared.party.PartyAdded.{PartyAdded}
 use Rattle.party_places.specs.declared.party.PartyAdded.TheVariants as party
 use Rattle.party_places.specs.Causes.{IsIn}
 use Rattle.party_places.proofs.Seated.{HasSeats, IsWhole, adds_seats, party_seats}
-use Rattle.offer_codes.specs.declared.code.Segment.{Segment}
+use Rattle.train_runs.specs.declared.segment.Segment.{Segment}
 use Rattle.offer_codes.specs.Offers.{OfferView}
 use Rattle.catalogue_contents.specs.Contents.{CatalogueView}
 use Rattle.reservation_service.specs.declared.holding.Placing.{Placing}

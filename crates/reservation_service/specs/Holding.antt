@@ -5,7 +5,7 @@ use Rattle.leg_masks.specs.Interval.{items_at, pieces}
 use Rattle.leg_masks.specs.Interval.{PlacedSpan as Item}
 use Rattle.rail_ids.specs.declared.RowNo.{RowNo}
 use Rattle.place_map.specs.Candidates.{candidates_of}
-use Rattle.offer_codes.specs.declared.code.Segment.{Segment}
+use Rattle.train_runs.specs.declared.segment.Segment.{Segment}
 use Rattle.offer_codes.specs.Offers.{OfferView}
 use Rattle.catalogue_contents.specs.Contents.{CatalogueView}
 use Rattle.history_model.specs.Lists.{Pairwise}

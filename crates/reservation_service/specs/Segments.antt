@@ -4,7 +4,7 @@ use Rattle.history_model.specs.Booking.{most_items}
 use Rattle.claim_rule.specs.Rule.{BooksView, DeskView}
 use Rattle.claim_rule.specs.Holds.{HoldView}
 use Rattle.claim_rule.specs.Out.{HasNotedItems}
-use Rattle.offer_codes.specs.declared.code.Segment.{Segment}
+use Rattle.train_runs.specs.declared.segment.Segment.{Segment}
 use Rattle.offer_codes.specs.declared.code.OfferCode.{OfferCode}
 use Rattle.offer_codes.specs.Offers.{OfferView, offer_view, is_party}
 use Rattle.catalogue_contents.specs.Contents.{CatalogueView}

@@ -1,6 +1,6 @@
 -- The replies to searches.
 use Rattle.std.proofs.Common.{◌≡◌, ◌∙◌, inl, inr, ℕ, Bool, List, Result, Ok, Err, IfOk, IfErr, refl, ap, subst}
-use Rattle.offer_codes.specs.declared.code.Segment.{Segment}
+use Rattle.train_runs.specs.declared.segment.Segment.{Segment}
 use Rattle.offer_codes.specs.declared.code.Offer.{Offer}
 use Rattle.rail_ids.specs.declared.PlaceNo.{PlaceNo}
 use Rattle.catalogue_contents.specs.Contents.{CatalogueView}

@@ -8,11 +8,11 @@ use Rattle.rail_time.specs.Moments.{last_second}
 use Rattle.leg_masks.specs.Interval.{most_legs}
 use Rattle.train_runs.specs.Stops.{RunView, most_stops}
 use Rattle.train_runs.specs.Runs.{RunsView, most_runs}
-use Rattle.offer_codes.specs.declared.code.Segment.{Segment}
+use Rattle.train_runs.specs.declared.segment.Segment.{Segment}
 use Rattle.offer_codes.specs.declared.code.Offer.{Offer}
 use Rattle.offer_codes.specs.Offers.{is_segment, is_party, is_offer}
 use Rattle.catalogue_contents.specs.Contents.{CatalogueView}
-use Rattle.trip_builder.specs.declared.trip.TripWish.{TripWish}
+use Rattle.train_runs.specs.declared.wish.TripWish.{TripWish}
 use Rattle.trip_builder.specs.Segments.{segment, segments_to, segments_from, segments_of, all_segments}
 use Rattle.trip_builder.specs.Order.{stands_before, sorted_in}
 use Rattle.trip_builder.specs.Trips.{is_trip, longer, all_lists, trips_of, most_trips}

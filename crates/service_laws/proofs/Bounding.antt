@@ -55,7 +55,7 @@ use Rattle.trade_service.specs.Exchanges.{AnswersExchangeQuote}
 use Rattle.availability.specs.Looks.{LooksAt, LooksPieces}
 use Rattle.std.specs.List.{flat_map}
 use Rattle.offer_codes.specs.declared.code.Offer.{Offer}
-use Rattle.offer_codes.specs.declared.code.Segment.{Segment}
+use Rattle.train_runs.specs.declared.segment.Segment.{Segment}
 use Rattle.offer_engine.specs.Offers.{CountsSegments, OffersFor, raised, wanted_places}
 use Rattle.offer_engine.specs.declared.wish.OfferWish.{OfferWish}
 use Rattle.search_service.specs.Searching.{ListsPlaces, SearchesOffers, numbers_on}

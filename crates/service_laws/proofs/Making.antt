@@ -40,7 +40,7 @@ use Rattle.booking_rows.specs.Views.{RowSeen}
 use Rattle.booking_rows.specs.Notes.{detail_notes}
 use Rattle.booking_rows.specs.declared.notes.Detail.{Detail}
 use Rattle.offer_codes.specs.Offers.{OfferView}
-use Rattle.offer_codes.specs.declared.code.Segment.{Segment}
+use Rattle.train_runs.specs.declared.segment.Segment.{Segment}
 use Rattle.catalogue_contents.specs.Contents.{CatalogueView}
 use Rattle.osdm_texts.specs.Seen.{made_view}
 use Rattle.reservation_service.specs.Holding.{HoldsPlaces}

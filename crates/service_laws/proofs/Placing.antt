@@ -29,7 +29,7 @@ use Rattle.party_places.specs.Parties.{EndsTries, Fails, Party, SitsApart, SitsT
 use Rattle.party_places.specs.Searches.{Looked, LooksAtEach, places_looked}
 use Rattle.party_places.specs.declared.party.PartyAdded.{PartyAdded}
 use Rattle.party_places.specs.declared.party.PartyAdded.TheVariants as party
-use Rattle.offer_codes.specs.declared.code.Segment.{Segment}
+use Rattle.train_runs.specs.declared.segment.Segment.{Segment}
 use Rattle.offer_codes.specs.Offers.{OfferView, offer_view}
 use Rattle.offer_codes.specs.Exchanges.{ExchangeView, exchange_view}
 use Rattle.catalogue_contents.specs.Contents.{CatalogueView}

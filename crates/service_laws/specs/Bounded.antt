@@ -5,7 +5,7 @@ use Rattle.claim_rule.specs.Rule.{BooksView, DeskView}
 use Rattle.claim_rule.specs.Desks.{AddsAtMost, IsOf}
 use Rattle.booking_rows.specs.Views.{other_looks}
 use Rattle.catalogue_contents.specs.Contents.{CatalogueView}
-use Rattle.offer_codes.specs.declared.code.Segment.{Segment}
+use Rattle.train_runs.specs.declared.segment.Segment.{Segment}
 use Rattle.offer_codes.specs.Offers.{OfferView, offer_view}
 use Rattle.offer_codes.specs.Exchanges.{exchange_view}
 use Rattle.hold_core.specs.Places.{most_entries}

@@ -1,7 +1,7 @@
 -- What a command orders, with the ids and codes that stand in it.
 use Rattle.std.specs.Prelude.{Bool}
 use Rattle.rail_ids.specs.declared.RowNo.{RowNo}
-use Rattle.offer_codes.specs.declared.code.Segment.{Segment}
+use Rattle.train_runs.specs.declared.segment.Segment.{Segment}
 use Rattle.offer_codes.specs.declared.code.OfferCode.{OfferCode}
 use Rattle.offer_codes.specs.declared.code.RefundCode.{RefundCode}
 use Rattle.offer_codes.specs.declared.code.ExchangeCode.{ExchangeCode}

@@ -1,10 +1,11 @@
 -- All stations and runs, and what adding a run answers.
 use Rattle.std.specs.Prelude.{◌≡◌, true, ℕ, ◌≤◌, nat_le, nat_lt, List, length, All, if◌then◌else◌, Option, Some, option_map, option_and_then, slice_get, [], ◌∷◌, ◌++◌, Ok, Err}
 use Rattle.std.specs.List.{list_all}
-use Rattle.std.specs.Option.{option_or}
+use Rattle.std.specs.Option.{option_or, option_map_or}
 use Rattle.leg_masks.specs.Interval.{Interval}
 use Rattle.rail_ids.specs.declared.StationNo.{StationNo}
 use Rattle.rail_ids.specs.declared.RunNo.{RunNo}
+use Rattle.train_runs.specs.declared.run.Stop.{Stop}
 use Rattle.train_runs.specs.declared.run.RunFault.{RunFault}
 use Rattle.train_runs.specs.declared.run.RunFault.TheVariants.{TooFewStops, TooManyStops, TimesNotRising, TooManyRuns, StationRepeated}
 use Rattle.train_runs.specs.Stations.{StationView, is_code, with_station}
@@ -19,6 +20,10 @@ pub record RunsView : Type 0 where
 
 abbrev pub most_runs : ℕ
 most_runs = 4_096
+
+-- the stops of the run with this number, and none where there is no such run
+abbrev pub stops_of : RunsView → ℕ → List Stop
+stops_of r run = option_map_or (λ (it : RunView). it.stops) (slice_get r.runs run) []
 
 -- the first fault of a further run, in the order of the listing
 abbrev pub run_fault : List RunView → RunView → Option RunFault

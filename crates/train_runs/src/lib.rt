@@ -6,6 +6,9 @@
 //! of a station from one moment to another. These departures are found by two binary searches, since `Runs` keeps a
 //! list of its departures in order for each station.
 //!
+//! Here are also what a search asks for, a `TripWish`, and what trips are made of, a `Segment` of a run, so that
+//! whoever reads or spells these doesn't stand on the search.
+//!
 //! Memory is taken while it is filled, and none when it is asked. `crosses` is the proof that threads may share it.
 #![tactic(auto)]
 
@@ -13,10 +16,14 @@ mod crossing;
 mod departure;
 mod run;
 mod runs;
+mod segment;
 mod station;
+mod wish;
 
 pub use crossing::crosses;
 pub use departure::Departure;
 pub use run::{MOST_STOPS, Run, RunFault, Stop};
 pub use runs::{MOST_RUNS, Runs};
+pub use segment::Segment;
 pub use station::{MOST_STATIONS, StationFault};
+pub use wish::TripWish;

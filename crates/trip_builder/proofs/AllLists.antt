@@ -4,11 +4,11 @@ use Rattle.std.specs.Prelude.{slice_get, Option}
 use Rattle.std.specs.Option.{option_map_or}
 use Rattle.std.specs.List.{flat_map, AllByRecursion}
 use Rattle.std.proofs.Math.Seq.{get_or-append_seam}
-use Rattle.offer_codes.specs.declared.code.Segment.{Segment}
+use Rattle.train_runs.specs.declared.segment.Segment.{Segment}
 use Rattle.train_runs.specs.declared.run.Stop.{Stop}
 use Rattle.train_runs.specs.Stops.{RunView}
-use Rattle.train_runs.specs.Runs.{RunsView}
-use Rattle.trip_builder.specs.Segments.{IsKnown, segment, segments_to, segments_from, segments_of, all_segments, stops_of, no_segment}
+use Rattle.train_runs.specs.Runs.{RunsView, stops_of}
+use Rattle.trip_builder.specs.Segments.{IsKnown, segment, segments_to, segments_from, segments_of, all_segments, no_segment}
 use Rattle.trip_builder.specs.Trips.{longer, all_lists}
 use Rattle.trip_builder.specs.Best.{IsAmong, AreApart}
 use Rattle.trip_builder.proofs.Members.{among_append, append_among, among_pieces, pieces_among, apart_append, apart_pieces}

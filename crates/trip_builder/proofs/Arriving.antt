@@ -4,13 +4,13 @@ use Rattle.std.specs.Prelude.{Option}
 use Rattle.std.proofs.lemmas.Bool.{cases_lt}
 use Rattle.std.specs.Option.{option_map_or}
 use Rattle.std.proofs.lemmas.Option.{slice_get_past}
-use Rattle.offer_codes.specs.declared.code.Segment.{Segment}
+use Rattle.train_runs.specs.declared.segment.Segment.{Segment}
 use Rattle.train_runs.specs.declared.run.Stop.{Stop}
 use Rattle.train_runs.specs.Stops.{RunView, stop_at}
-use Rattle.train_runs.specs.Runs.{RunsView}
-use Rattle.trip_builder.specs.declared.trip.TripWish.{TripWish}
+use Rattle.train_runs.specs.Runs.{RunsView, stops_of}
+use Rattle.train_runs.specs.declared.wish.TripWish.{TripWish}
 use Rattle.trip_builder.specs.declared.reached.Times.{Times}
-use Rattle.trip_builder.specs.Segments.{stops_of, first_stop, last_stop}
+use Rattle.trip_builder.specs.Segments.{first_stop, last_stop}
 use Rattle.trip_builder.specs.Trips.{longest_wait, leaves, uses_run}
 use Rattle.trip_builder.specs.Best.{IsTrip}
 use Rattle.trip_builder.specs.Bounds.{RanksView, IsMarkedRun}

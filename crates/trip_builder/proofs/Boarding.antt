@@ -2,13 +2,13 @@
 use Rattle.std.proofs.Common.{◌≡◌, ◌∙◌, ℕ, ◌<◌, true, false, not, List, length, refl, sym, ap, subst, arith, get_or, true≢false}
 use Rattle.std.proofs.lemmas.List.Elements.{at_read}
 use Rattle.rail_ids.specs.declared.StationNo.{StationNo}
-use Rattle.offer_codes.specs.declared.code.Segment.{Segment}
+use Rattle.train_runs.specs.declared.segment.Segment.{Segment}
 use Rattle.train_runs.specs.declared.run.Stop.{Stop}
 use Rattle.train_runs.specs.Stops.{no_stop, stop_at}
-use Rattle.train_runs.specs.Runs.{RunsView}
+use Rattle.train_runs.specs.Runs.{RunsView, stops_of}
 use Rattle.train_runs.specs.declared.departure.Departure.{Departure}
-use Rattle.trip_builder.specs.declared.trip.TripWish.{TripWish}
-use Rattle.trip_builder.specs.Segments.{segment, first_stop, stops_of}
+use Rattle.train_runs.specs.declared.wish.TripWish.{TripWish}
+use Rattle.trip_builder.specs.Segments.{segment, first_stop}
 use Rattle.trip_builder.specs.Trips.{leaves, uses_run}
 use Rattle.trip_builder.specs.Search.{leaves_after, has_run, AreLeaving, Leaves, MayTake, AreDecided, AreDecidedWith}
 use Rattle.trip_builder.proofs.StrictOrder.{one_segment}

@@ -2,7 +2,7 @@
 -- matter.
 use Rattle.std.proofs.Common.{◌≡◌, ◌∙◌, ℕ, zero, suc, ◌≤◌, ◌⊎◌, inl, inr, ⊎_elim, Bool, true, false, List, [], ◌∷◌, length, refl, sym, ap₂, subst, arith, true≢false, take, if◌then◌else◌}
 use Rattle.std.specs.List.{fold, AllByRecursion}
-use Rattle.offer_codes.specs.declared.code.Segment.{Segment}
+use Rattle.train_runs.specs.declared.segment.Segment.{Segment}
 use Rattle.train_runs.specs.Runs.{RunsView}
 use Rattle.trip_builder.specs.Order.{stands_before, sorted_in, sorted}
 use Rattle.trip_builder.specs.Trips.{most_trips}

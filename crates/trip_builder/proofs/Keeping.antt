@@ -1,6 +1,6 @@
 -- How late the sixteenth of the best arrives.
 use Rattle.std.proofs.Common.{ℕ, ◌<◌, ◌≤◌, inl, inr, List, [], arith}
-use Rattle.offer_codes.specs.declared.code.Segment.{Segment}
+use Rattle.train_runs.specs.declared.segment.Segment.{Segment}
 use Rattle.train_runs.specs.Runs.{RunsView}
 use Rattle.trip_builder.specs.Best.{AreInOrder}
 use Rattle.trip_builder.specs.Search.{AllArriveBy, AllArriveBefore}

@@ -9,9 +9,8 @@ use Rattle.rail_ids.specs.declared.StationNo.{StationNo}
 use Rattle.train_runs.specs.declared.run.Stop.{Stop}
 use Rattle.train_runs.specs.declared.departure.Departure.{Departure}
 use Rattle.train_runs.specs.Stops.{RunView, stop_at}
-use Rattle.train_runs.specs.Runs.{RunsView}
+use Rattle.train_runs.specs.Runs.{RunsView, stops_of}
 use Rattle.train_runs.specs.Departures.{IsDeparture, IsWithin, IsBefore, AreExactly, AreDepartures}
-use Rattle.trip_builder.specs.Segments.{stops_of}
 use Rattle.trip_builder.specs.Trips.{leaves}
 use Rattle.trip_builder.specs.Search.{Leaves, IsListed, AreLeaving, AreAllLeaving}
 use Rattle.trip_builder.proofs.StrictOrder.{three_ways}

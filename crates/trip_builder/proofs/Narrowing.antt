@@ -1,7 +1,7 @@
 -- What stays right where more of the ranks come too late.
 use Rattle.std.proofs.Common.{◌≡◌, ◌∙◌, ℕ, ◌<◌, ◌≤◌, List, length, sym, ap, subst, arith, get_or}
 use Rattle.train_runs.specs.Runs.{RunsView}
-use Rattle.trip_builder.specs.declared.trip.TripWish.{TripWish}
+use Rattle.train_runs.specs.declared.wish.TripWish.{TripWish}
 use Rattle.trip_builder.specs.declared.board.Useful.{Useful}
 use Rattle.trip_builder.specs.declared.rides.Rides.{Rides}
 use Rattle.trip_builder.specs.Bounds.{RanksView, IsPlaced, AreRanks, IsNarrowed, AreRides, AreBoards, ReachView, IsReach, BoundsView, AreBounds, AreNarrowed}

@@ -1,12 +1,12 @@
 -- What comes behind the sixteenth by its whole key: as it begins, it can't come among the best.
 use Rattle.std.proofs.Common.{◌≡◌, ◌∙◌, ℕ, ◌+◌, ◌<◌, ◌≤◌, ◌==◌, ◌⊎◌, inl, inr, Bool, true, false, List, [], ◌∷◌, ◌++◌, length, length-append, append_assoc, refl, sym, ap, subst, arith, nat_lt, true≢false, if◌then◌else◌}
 use Rattle.std.proofs.lemmas.Bool.Decides.{nat_tests}
-use Rattle.offer_codes.specs.declared.code.Segment.{Segment}
+use Rattle.train_runs.specs.declared.segment.Segment.{Segment}
 use Rattle.train_runs.specs.declared.run.Stop.{Stop}
 use Rattle.train_runs.specs.declared.departure.Departure.{Departure}
 use Rattle.train_runs.specs.Runs.{RunsView}
 use Rattle.rail_ids.specs.declared.StationNo.{StationNo}
-use Rattle.trip_builder.specs.declared.trip.TripWish.{TripWish}
+use Rattle.train_runs.specs.declared.wish.TripWish.{TripWish}
 use Rattle.trip_builder.specs.Segments.{segment, first_stop, last_stop}
 use Rattle.trip_builder.specs.Order.{last_arrival, first_departure, is_same, is_lower, are_lower, exceeds, stands_before}
 use Rattle.trip_builder.specs.Trips.{most_trips}

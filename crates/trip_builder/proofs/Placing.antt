@@ -2,7 +2,7 @@
 use Rattle.std.proofs.Common.{◌≡◌, ◌∙◌, ℕ, zero, suc, ◌+◌, ◌<◌, ◌≤◌, ◌⊎◌, inl, inr, Bool, true, false, List, [], ◌∷◌, length, refl, sym, ap, subst, arith, get_or, true≢false, if◌then◌else◌}
 use Rattle.std.specs.List.{AllWithin, insert}
 use Rattle.std.proofs.lemmas.List.{get_or_default}
-use Rattle.offer_codes.specs.declared.code.Segment.{Segment}
+use Rattle.train_runs.specs.declared.segment.Segment.{Segment}
 use Rattle.train_runs.specs.Runs.{RunsView}
 use Rattle.trip_builder.specs.Order.{stands_before, sorted_in}
 use Rattle.trip_builder.specs.Best.{IsAmong, AllStandBefore, AreInOrder}

@@ -3,14 +3,13 @@ use Rattle.std.proofs.Common.{◌≡◌, ◌∙◌, ℕ, ◌+◌, ◌-◌, ◌<�
 use Rattle.std.proofs.lemmas.Bool.{cases_lt}
 use Rattle.std.proofs.lemmas.Option.{slice_get_past}
 use Rattle.std.specs.Option.{option_map_or}
-use Rattle.offer_codes.specs.declared.code.Segment.{Segment}
+use Rattle.train_runs.specs.declared.segment.Segment.{Segment}
 use Rattle.train_runs.specs.declared.run.Stop.{Stop}
 use Rattle.train_runs.specs.Stops.{RunView}
-use Rattle.train_runs.specs.Runs.{RunsView}
-use Rattle.trip_builder.specs.declared.trip.TripWish.{TripWish}
+use Rattle.train_runs.specs.Runs.{RunsView, stops_of}
+use Rattle.train_runs.specs.declared.wish.TripWish.{TripWish}
 use Rattle.trip_builder.specs.declared.ranks.FirstTwo.{FirstTwo}
 use Rattle.trip_builder.specs.declared.ranks.Arrival.{Arrival}
-use Rattle.trip_builder.specs.Segments.{stops_of}
 use Rattle.trip_builder.specs.Search.{has_run}
 use Rattle.trip_builder.specs.Bounds.{LeadsTo, end_of, arrival_of, IsBound, RanksView, rank_of, IsPlacedRun, AreRanks, BoundsFresh}
 use Rattle.trip_builder.proofs.Bounding.{leading_placed}

@@ -6,14 +6,14 @@ use Rattle.std.proofs.lemmas.Bool.Decides.{nat_tests}
 use Rattle.std.proofs.lemmas.List.{get_or-set_same, get_or-set_other}
 use Rattle.std.proofs.lemmas.Nat.{same_from_place}
 use Rattle.std.proofs.lemmas.Option.{slice_get_past}
-use Rattle.offer_codes.specs.declared.code.Segment.{Segment}
+use Rattle.train_runs.specs.declared.segment.Segment.{Segment}
 use Rattle.train_runs.specs.declared.run.Stop.{Stop}
 use Rattle.train_runs.specs.Stops.{RunView, stop_at}
-use Rattle.train_runs.specs.Runs.{RunsView}
-use Rattle.trip_builder.specs.declared.trip.TripWish.{TripWish}
+use Rattle.train_runs.specs.Runs.{RunsView, stops_of}
+use Rattle.train_runs.specs.declared.wish.TripWish.{TripWish}
 use Rattle.trip_builder.specs.declared.ranks.FirstTwo.{FirstTwo}
 use Rattle.trip_builder.specs.declared.rides.Rides.{Rides}
-use Rattle.trip_builder.specs.Segments.{stops_of, first_stop}
+use Rattle.trip_builder.specs.Segments.{first_stop}
 use Rattle.trip_builder.specs.Bounds.{unknown, LeadsTo, rank_of, RanksView, AreRanks, Precede, FirstsOfRide, FirstsOfStop, IsMarkedRun, AreMarked, KeepMarks, AreRides, AreUnknown}
 use Rattle.trip_builder.proofs.Bounding.{unknown_precede}
 

@@ -6,13 +6,13 @@ use Rattle.std.specs.Option.{option_map_or}
 use Rattle.std.proofs.lemmas.Bool.{cases_lt}
 use Rattle.std.proofs.lemmas.Option.{slice_get_past}
 use Rattle.rail_ids.specs.declared.StationNo.{StationNo}
-use Rattle.offer_codes.specs.declared.code.Segment.{Segment}
+use Rattle.train_runs.specs.declared.segment.Segment.{Segment}
 use Rattle.train_runs.specs.declared.run.Stop.{Stop}
 use Rattle.train_runs.specs.declared.departure.Departure.{Departure}
 use Rattle.train_runs.specs.Stops.{RunView, stop_at}
-use Rattle.train_runs.specs.Runs.{RunsView}
-use Rattle.trip_builder.specs.declared.trip.TripWish.{TripWish}
-use Rattle.trip_builder.specs.Segments.{IsKnown, segment, stops_of, first_stop, last_stop}
+use Rattle.train_runs.specs.Runs.{RunsView, stops_of}
+use Rattle.train_runs.specs.declared.wish.TripWish.{TripWish}
+use Rattle.trip_builder.specs.Segments.{IsKnown, segment, first_stop, last_stop}
 use Rattle.trip_builder.specs.Order.{last_arrival}
 use Rattle.trip_builder.specs.Trips.{connects, change_at, longest_wait}
 use Rattle.trip_builder.specs.Best.{IsDecided}

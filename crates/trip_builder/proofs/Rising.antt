@@ -6,8 +6,8 @@ use Rattle.std.proofs.lemmas.Bool.Decides.{nat_tests}
 use Rattle.std.proofs.lemmas.Option.{slice_get_within, get_or_from_slice_get}
 use Rattle.train_runs.specs.declared.run.Stop.{Stop}
 use Rattle.train_runs.specs.Stops.{RunView, IsRun, stop_at, is_unrisen, least_from, first_unrisen}
-use Rattle.train_runs.specs.Runs.{RunsView}
-use Rattle.trip_builder.specs.Segments.{first_stop, last_stop, stops_of}
+use Rattle.train_runs.specs.Runs.{RunsView, stops_of}
+use Rattle.trip_builder.specs.Segments.{first_stop, last_stop}
 use Rattle.trip_builder.specs.Search.{Rise}
 
 pub none_least : (p : ℕ → Bool) (j n k : ℕ) → least_from p j n ≡ None → j ≤ k → k < j + n → p k ≡ false

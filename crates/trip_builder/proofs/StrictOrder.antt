@@ -1,7 +1,7 @@
 -- Trips stand in one order: of two that differ one stands before the other, and none before itself.
 use Rattle.std.proofs.Common.{◌≡◌, ◌∙◌, ℕ, ◌==◌, ◌&&◌, ◌<◌, ◌≤◌, ◌⊎◌, inl, inr, Bool, true, false, List, [], ◌∷◌, length, refl, sym, ap, ap₂, arith, nat_lt, true≢false, if◌then◌else◌, eqb-true, eq-eqb, ne_eqb, ltb-true, ltb-false, lt-ltb, le-ltb}
 use Rattle.std.proofs.lemmas.Bool.{cases_lt}
-use Rattle.offer_codes.specs.declared.code.Segment.{Segment}
+use Rattle.train_runs.specs.declared.segment.Segment.{Segment}
 use Rattle.train_runs.specs.Runs.{RunsView}
 use Rattle.trip_builder.specs.Segments.{segment}
 use Rattle.trip_builder.specs.Order.{last_arrival, first_departure, is_same, is_lower, are_lower, stands_before}

@@ -4,11 +4,11 @@ use Rattle.std.specs.List.{AllByRecursion}
 use Rattle.std.proofs.Math.Bool.{and-true}
 use Rattle.std.proofs.Math.Seq.{get_or-append_seam}
 use Rattle.std.proofs.lemmas.Bool.Decides.{nat_tests}
-use Rattle.offer_codes.specs.declared.code.Segment.{Segment}
-use Rattle.train_runs.specs.Runs.{RunsView}
+use Rattle.train_runs.specs.declared.segment.Segment.{Segment}
+use Rattle.train_runs.specs.Runs.{RunsView, stops_of}
 use Rattle.train_runs.specs.declared.departure.Departure.{Departure}
-use Rattle.trip_builder.specs.declared.trip.TripWish.{TripWish}
-use Rattle.trip_builder.specs.Segments.{IsKnown, segment, stops_of, first_stop, last_stop, last_of, no_segment}
+use Rattle.train_runs.specs.declared.wish.TripWish.{TripWish}
+use Rattle.trip_builder.specs.Segments.{IsKnown, segment, first_stop, last_stop, last_of, no_segment}
 use Rattle.trip_builder.specs.Order.{last_arrival}
 use Rattle.trip_builder.specs.Trips.{begins, connects, uses_run, follows, is_chain, arrives, sets_out, is_trip, change_at, longest_wait}
 use Rattle.trip_builder.specs.Best.{IsTrip}

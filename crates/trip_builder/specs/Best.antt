@@ -1,9 +1,9 @@
 -- The best trips: the first sixteen, whatever order they are found in.
 use Rattle.std.specs.Prelude.{◌≡◌, ◌≤◌, ◌⊎◌, true, List, [], ◌∷◌, length}
 use Rattle.std.specs.List.{AllByRecursion}
-use Rattle.offer_codes.specs.declared.code.Segment.{Segment}
+use Rattle.train_runs.specs.declared.segment.Segment.{Segment}
 use Rattle.train_runs.specs.Runs.{RunsView}
-use Rattle.trip_builder.specs.declared.trip.TripWish.{TripWish}
+use Rattle.train_runs.specs.declared.wish.TripWish.{TripWish}
 use Rattle.trip_builder.specs.Segments.{IsKnown}
 use Rattle.trip_builder.specs.Order.{stands_before}
 use Rattle.trip_builder.specs.Trips.{is_trip, most_trips}

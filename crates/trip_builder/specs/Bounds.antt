@@ -3,17 +3,17 @@
 use Rattle.std.specs.Prelude.{◌≡◌, ◌<◌, ◌≤◌, ◌+◌, ◌-◌, ◌*◌, ◌++◌, ◌==◌, ◌&&◌, ◌⊎◌, ℕ, length, nat_lt, Bool, true, false, List, [], ◌∷◌, slice_index_or, if◌then◌else◌}
 use Rattle.std.specs.List.{AllByRecursion}
 use Rattle.rail_ids.specs.declared.StationNo.{StationNo}
-use Rattle.offer_codes.specs.declared.code.Segment.{Segment}
+use Rattle.train_runs.specs.declared.segment.Segment.{Segment}
 use Rattle.train_runs.specs.Stops.{stop_at}
-use Rattle.train_runs.specs.Runs.{RunsView}
-use Rattle.trip_builder.specs.declared.trip.TripWish.{TripWish}
+use Rattle.train_runs.specs.Runs.{RunsView, stops_of}
+use Rattle.train_runs.specs.declared.wish.TripWish.{TripWish}
 use Rattle.trip_builder.specs.declared.board.Useful.{Useful}
 use Rattle.trip_builder.specs.declared.ranks.FirstTwo.{FirstTwo}
 use Rattle.trip_builder.specs.declared.ranks.Arrival.{Arrival}
 use Rattle.trip_builder.specs.declared.rides.Rides.{Rides}
 use Rattle.train_runs.specs.declared.departure.Departure.{Departure}
 use Rattle.train_runs.specs.declared.run.Stop.{Stop}
-use Rattle.trip_builder.specs.Segments.{IsKnown, stops_of, first_stop, last_stop}
+use Rattle.trip_builder.specs.Segments.{IsKnown, first_stop, last_stop}
 use Rattle.trip_builder.specs.Trips.{connects, leaves}
 use Rattle.trip_builder.specs.Best.{IsTrip}
 use Rattle.trip_builder.specs.Search.{has_run}

@@ -1,12 +1,11 @@
 -- Where the runs come to the destination, as far as they were looked up.
 use Rattle.std.specs.Prelude.{◌≡◌, ◌<◌, ℕ, length, List, slice_index_or}
 use Rattle.train_runs.specs.Stops.{stop_at, most_stops}
-use Rattle.train_runs.specs.Runs.{RunsView}
-use Rattle.trip_builder.specs.declared.trip.TripWish.{TripWish}
+use Rattle.train_runs.specs.Runs.{RunsView, stops_of}
+use Rattle.train_runs.specs.declared.wish.TripWish.{TripWish}
 use Rattle.trip_builder.specs.declared.ends.Call.{Call}
 use Rattle.trip_builder.specs.declared.ends.End.{End}
 use Rattle.trip_builder.specs.declared.ends.End.TheVariants.{Unknown, Nowhere, At}
-use Rattle.trip_builder.specs.Segments.{stops_of}
 
 -- the stop of the run is at the destination
 abbrev pub IsThere : RunsView → TripWish → ℕ → ℕ → Type 0

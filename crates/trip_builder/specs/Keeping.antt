@@ -1,8 +1,8 @@
 -- What a search keeps: the best sixteen so far, and how late the last of them arrives.
 use Rattle.std.specs.Prelude.{◌≡◌, ◌<◌, ◌≤◌, ◌⊎◌, ◌+◌, ℕ, true, length, List, [], slice_index_or}
-use Rattle.offer_codes.specs.declared.code.Segment.{Segment}
+use Rattle.train_runs.specs.declared.segment.Segment.{Segment}
 use Rattle.train_runs.specs.Runs.{RunsView}
-use Rattle.trip_builder.specs.declared.trip.TripWish.{TripWish}
+use Rattle.train_runs.specs.declared.wish.TripWish.{TripWish}
 use Rattle.trip_builder.specs.declared.best.Best.{Best}
 use Rattle.trip_builder.specs.declared.found.Found.{Found}
 use Rattle.trip_builder.specs.Order.{last_arrival, first_departure, exceeds}

@@ -1,13 +1,13 @@
 -- Where one may be after that many trains of a wish: from when to when a train may be taken at each station.
 use Rattle.std.specs.Prelude.{◌≡◌, ◌<◌, ◌≤◌, ◌+◌, ◌++◌, ◌∷◌, ℕ, length, Bool, true, List, slice_index_or}
-use Rattle.offer_codes.specs.declared.code.Segment.{Segment}
+use Rattle.train_runs.specs.declared.segment.Segment.{Segment}
 use Rattle.train_runs.specs.declared.run.Stop.{Stop}
 use Rattle.train_runs.specs.Stops.{stop_at}
-use Rattle.train_runs.specs.Runs.{RunsView}
-use Rattle.trip_builder.specs.declared.trip.TripWish.{TripWish}
+use Rattle.train_runs.specs.Runs.{RunsView, stops_of}
+use Rattle.train_runs.specs.declared.wish.TripWish.{TripWish}
 use Rattle.trip_builder.specs.declared.reached.Times.{Times}
 use Rattle.trip_builder.specs.declared.reached.Near.{Near}
-use Rattle.trip_builder.specs.Segments.{stops_of, first_stop}
+use Rattle.trip_builder.specs.Segments.{first_stop}
 use Rattle.trip_builder.specs.Trips.{longest_wait}
 use Rattle.trip_builder.specs.Best.{IsTrip}
 

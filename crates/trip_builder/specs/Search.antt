@@ -2,13 +2,13 @@
 use Rattle.std.specs.Prelude.{◌≡◌, ◌<◌, ◌≤◌, ◌+◌, ◌==◌, ◌&&◌, ℕ, length, Bool, true, false, not, List, [], ◌∷◌, ◌++◌, take, slice_index_or, if◌then◌else◌}
 use Rattle.std.specs.List.{AllByRecursion, list_any}
 use Rattle.rail_ids.specs.declared.StationNo.{StationNo}
-use Rattle.offer_codes.specs.declared.code.Segment.{Segment}
+use Rattle.train_runs.specs.declared.segment.Segment.{Segment}
 use Rattle.train_runs.specs.declared.run.Stop.{Stop}
 use Rattle.train_runs.specs.declared.departure.Departure.{Departure}
 use Rattle.train_runs.specs.Stops.{stop_at}
-use Rattle.train_runs.specs.Runs.{RunsView}
-use Rattle.trip_builder.specs.declared.trip.TripWish.{TripWish}
-use Rattle.trip_builder.specs.Segments.{IsKnown, stops_of, first_stop, last_stop, last_of, segment}
+use Rattle.train_runs.specs.Runs.{RunsView, stops_of}
+use Rattle.train_runs.specs.declared.wish.TripWish.{TripWish}
+use Rattle.trip_builder.specs.Segments.{IsKnown, first_stop, last_stop, last_of, segment}
 use Rattle.trip_builder.specs.Order.{sorted_in, last_arrival}
 use Rattle.trip_builder.specs.Trips.{leaves, change_at, uses_run, sets_out, arrives, most_trips, longest_wait}
 use Rattle.trip_builder.specs.Best.{IsTrip, IsDecided, AreBest}

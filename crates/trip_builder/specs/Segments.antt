@@ -1,13 +1,9 @@
 -- The segments of all runs.
-use Rattle.std.specs.Prelude.{ℕ, suc, zero, ◌+◌, ◌-◌, ◌<◌, List, [], ◌∷◌, ◌++◌, length, slice_get, slice_index_or}
-use Rattle.std.specs.Option.{option_map_or}
-use Rattle.offer_codes.specs.declared.code.Segment.{Segment}
+use Rattle.std.specs.Prelude.{ℕ, suc, zero, ◌+◌, ◌-◌, ◌<◌, List, [], ◌∷◌, ◌++◌, length, slice_index_or}
+use Rattle.train_runs.specs.declared.segment.Segment.{Segment}
 use Rattle.train_runs.specs.declared.run.Stop.{Stop}
 use Rattle.train_runs.specs.Stops.{RunView, stop_at}
-use Rattle.train_runs.specs.Runs.{RunsView}
-
-abbrev pub stops_of : RunsView → ℕ → List Stop
-stops_of r run = option_map_or (λ (it : RunView). it.stops) (slice_get r.runs run) []
+use Rattle.train_runs.specs.Runs.{RunsView, stops_of}
 
 -- where and when a segment begins and ends
 abbrev pub first_stop : RunsView → Segment → Stop

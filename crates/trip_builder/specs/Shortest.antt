@@ -1,12 +1,12 @@
 -- The shortest rides straight to the destination.
 use Rattle.std.specs.Prelude.{◌≡◌, ◌<◌, ◌≤◌, ◌+◌, ℕ, length, List, slice_index_or}
 use Rattle.rail_ids.specs.declared.StationNo.{StationNo}
-use Rattle.offer_codes.specs.declared.code.Segment.{Segment}
+use Rattle.train_runs.specs.declared.segment.Segment.{Segment}
 use Rattle.train_runs.specs.declared.departure.Departure.{Departure}
 use Rattle.train_runs.specs.Stops.{stop_at}
-use Rattle.train_runs.specs.Runs.{RunsView}
-use Rattle.trip_builder.specs.declared.trip.TripWish.{TripWish}
-use Rattle.trip_builder.specs.Segments.{stops_of, first_stop}
+use Rattle.train_runs.specs.Runs.{RunsView, stops_of}
+use Rattle.train_runs.specs.declared.wish.TripWish.{TripWish}
+use Rattle.trip_builder.specs.Segments.{first_stop}
 use Rattle.trip_builder.specs.Search.{Rise}
 use Rattle.trip_builder.specs.Ends.{IsThere}
 use Rattle.trip_builder.specs.Bounds.{LeadsTo, arrival_of}

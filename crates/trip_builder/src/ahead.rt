@@ -12,11 +12,9 @@ use crate::ends::End;
 use crate::found::{Found, is_hopeless, longer, may_lead};
 use crate::ranks::NEVER;
 use crate::search::MOST_SEGMENTS;
-use crate::trip::TripWish;
-use offer_codes::Segment;
 use rail_ids::RunNo;
 use std::alloc::AllocError;
-use train_runs::{Departure, Runs};
+use train_runs::{Departure, Runs, Segment, TripWish};
 
 /// How many trains are taken after one way at most: as many as there are best trips, twice.
 const MOST_TRAINS: usize = 32;

@@ -1,7 +1,7 @@
 ghost use Rattle.std.specs.Prelude.{◌≡◌, ◌≤◌, ◌<◌, ◌+◌, true, false, length, OnOk, slice_index_or};
 ghost use Rattle.std.specs.List.{insert};
 ghost use Rattle.train_runs.specs.Runs.{RunsView};
-ghost use Rattle.trip_builder.specs.declared.trip.TripWish.{TripWish};
+ghost use Rattle.train_runs.specs.declared.wish.TripWish.{TripWish};
 ghost use Rattle.trip_builder.specs.Trips.{most_trips};
 ghost use Rattle.trip_builder.specs.Best.{AreBest, IsAmong, IsTrip, IsDecided};
 ghost use Rattle.trip_builder.specs.Search.{IsWay, Grows, AllArriveBy, AllArriveBefore, keep as keep_of};
@@ -11,10 +11,9 @@ ghost use Rattle.trip_builder.specs.Keeping.{IsKept, IsLimit, IsOutdone, BeginsB
 use crate::departures::{first_stop_of, last_stop_of};
 use crate::order::{exceeds, is_same_trip, place_among};
 use crate::ranks::NEVER;
-use crate::trip::{Trip, TripWish};
-use offer_codes::Segment;
+use crate::trip::Trip;
 use std::alloc::{AllocError, Global};
-use train_runs::Runs;
+use train_runs::{Runs, Segment, TripWish};
 
 /// How many trips are answered at most.
 const MOST_TRIPS: usize = 16;

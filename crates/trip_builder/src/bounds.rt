@@ -1,6 +1,6 @@
 ghost use Rattle.std.specs.Prelude.{◌≡◌, ◌<◌, ◌≤◌, ◌+◌, ◌^◌, ℕ, true, [], length, IfOk, OnOk};
 ghost use Rattle.train_runs.specs.Runs.{RunsView};
-ghost use Rattle.trip_builder.specs.declared.trip.TripWish.{TripWish};
+ghost use Rattle.train_runs.specs.declared.wish.TripWish.{TripWish};
 ghost use Rattle.trip_builder.specs.Ends.{AreEnds};
 ghost use Rattle.trip_builder.specs.Bounds.{RanksView, ReachView, Precede, AreRanks, AreRides, AreFirsts, AreBoards, IsReach, AreBounds, AreNarrowed, StayRides, StayLastRides, AreMarked, IsMarkedRun, KeepMarks, BoundsRide, BoundsLeaving, FirstsOfRide, FirstsOfStop, no_rank};
 
@@ -11,12 +11,10 @@ use crate::probe::probed_rank;
 use crate::ranks::{FirstTwo, Ranks, join};
 use crate::reached::Near;
 use crate::rides::Rides;
-use crate::trip::TripWish;
-use offer_codes::Segment;
 use rail_ids::{RunNo, StationNo};
 use std::alloc::{AllocError, Global};
 use std::marker::Model;
-use train_runs::{Departure, Runs, Stop};
+use train_runs::{Departure, Runs, Segment, Stop, TripWish};
 
 /// With fewer changes than this there are bounds.
 const BOUNDED_CHANGES: usize = 3;

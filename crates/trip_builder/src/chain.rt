@@ -3,9 +3,8 @@ ghost use Rattle.trip_builder.specs.Trips.{are_connected as are_connected_of, fo
 ghost use Rattle.trip_builder.specs.Search.{has_run as has_run_of};
 
 use crate::departures::{admits, stop_of, window_after};
-use offer_codes::Segment;
 use rail_ids::RunNo;
-use train_runs::Runs;
+use train_runs::{Runs, Segment};
 
 /// Whether each of the segments but the first is reached from those before it: at the station where the one before
 /// ended, from the change time to 14,400 seconds after it, on a run that none of them has.

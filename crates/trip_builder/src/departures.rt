@@ -4,14 +4,12 @@ ghost use Rattle.trip_builder.specs.Segments.{stops_of as stops_of_run, first_st
 ghost use Rattle.trip_builder.specs.Trips.{leaves, change_at, longest_wait};
 ghost use Rattle.trip_builder.specs.Search.{AreLeaving, AreAllLeaving, Rise, IsWindowOf, first_after, last_after};
 
-use crate::trip::TripWish;
-use offer_codes::Segment;
 use rail_ids::{RunNo, StationNo};
 use rail_time::Moment;
 use std::marker::Brand;
 use std::sync::ledger::{Blank, Ledger};
 use step_count::Steps;
-use train_runs::{Departure, Runs, Stop};
+use train_runs::{Departure, Runs, Segment, Stop, TripWish};
 
 /// The longest wait between two trains, in seconds.
 pub(crate) const LONGEST_WAIT: u64 = 14_400;

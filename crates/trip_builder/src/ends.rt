@@ -1,13 +1,12 @@
 ghost use Rattle.std.specs.Prelude.{◌≡◌, ◌<◌, ◌≤◌, length, List, IfOk, slice_index_or};
 ghost use Rattle.train_runs.specs.Runs.{RunsView};
-ghost use Rattle.trip_builder.specs.declared.trip.TripWish.{TripWish};
+ghost use Rattle.train_runs.specs.declared.wish.TripWish.{TripWish};
 ghost use Rattle.trip_builder.specs.Ends.{IsEnd, IsEndSoFar, AreEnds};
 
-use crate::trip::TripWish;
 use rail_ids::RunNo;
 use std::alloc::{AllocError, Global};
 use std::marker::Model;
-use train_runs::Runs;
+use train_runs::{Runs, TripWish};
 
 /// Which stop of a run is at the destination, and when it arrives there.
 #[derive(Clone, Copy)]

@@ -1,8 +1,8 @@
 ghost use Rattle.train_runs.specs.Stops.{most_stops};
 ghost use Rattle.std.specs.Prelude.{◌≡◌, ◌≤◌, ◌<◌, ◌⊎◌, ◌+◌, ◌++◌, ◌∷◌, [], true, false, List, length, OnOk, IfSome};
 ghost use Rattle.train_runs.specs.Runs.{RunsView};
-ghost use Rattle.offer_codes.specs.declared.code.Segment.{Segment};
-ghost use Rattle.trip_builder.specs.declared.trip.TripWish.{TripWish};
+ghost use Rattle.train_runs.specs.declared.segment.Segment.{Segment};
+ghost use Rattle.train_runs.specs.declared.wish.TripWish.{TripWish};
 ghost use Rattle.trip_builder.specs.Segments.{segment};
 ghost use Rattle.trip_builder.specs.Search.{IsWay, MayTake, Grows, AreDecidedFrom, has_run as has_run_of};
 ghost use Rattle.trip_builder.specs.Keeping.{IsSearch, IsOutdone};
@@ -15,12 +15,10 @@ use crate::departures::stops_of;
 use crate::ends::{End, Ends};
 use crate::ranks::NEVER;
 use crate::shortest::Shortest;
-use crate::trip::TripWish;
 use arrayvec::ArrayVec;
 use leg_masks::Span;
-use offer_codes::Segment;
 use std::alloc::AllocError;
-use train_runs::{Departure, Runs};
+use train_runs::{Departure, Runs, Segment, TripWish};
 
 /// What a search has so far. It has the best trips, where runs come to the destination, how short a ride there is at
 /// least, and the bounds from the destination back once they are made. It also has how many tries come before them, and

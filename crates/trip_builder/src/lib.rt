@@ -38,4 +38,5 @@ mod shortest;
 pub use chain::are_connected;
 pub use departures::{first_stop_of, last_stop_of};
 pub use search::trips;
-pub use trip::{Trip, TripWish};
+pub use train_runs::TripWish;
+pub use trip::Trip;

@@ -5,8 +5,7 @@ ghost use Rattle.trip_builder.specs.Best.{AreInOrder};
 
 use crate::departures::{first_stop_of, last_stop_of};
 use crate::trip::Trip;
-use offer_codes::Segment;
-use train_runs::Runs;
+use train_runs::{Runs, Segment};
 
 /// How many of the trips, which stand in order, stand before this one.
 pub(crate) fn place_among(runs: &Runs, sorted: &[Trip], trip: &[Segment]) -> usize

@@ -1,10 +1,9 @@
 use crate::departures::{leaving, stops_of, window_at, window_of};
 use crate::ranks::{NO_RANK, Ranks};
 use crate::rides::Rides;
-use crate::trip::TripWish;
 use rail_ids::RunNo;
 use std::alloc::{AllocError, Global};
-use train_runs::{Departure, Runs, Stop};
+use train_runs::{Departure, Runs, Stop, TripWish};
 
 /// How many ways are looked for: some more than a search answers, since not each of them need be a trip.
 const ENOUGH: usize = 24;

@@ -1,19 +1,17 @@
 ghost use Rattle.std.specs.Prelude.{◌≡◌, ◌≤◌, ◌<◌, ℕ, true, [], length, slice_index_or};
 ghost use Rattle.train_runs.specs.Runs.{RunsView};
-ghost use Rattle.trip_builder.specs.declared.trip.TripWish.{TripWish};
-ghost use Rattle.offer_codes.specs.declared.code.Segment.{Segment};
+ghost use Rattle.train_runs.specs.declared.wish.TripWish.{TripWish};
+ghost use Rattle.train_runs.specs.declared.segment.Segment.{Segment};
 ghost use Rattle.trip_builder.specs.Bounds.{Precede, AreRanks, IsPlacedRun, Ascends, BoundsFresh, FirstsOfRide, LeadsTo, IsNarrowed, rank_in, rank_of, no_rank};
 ghost use Rattle.trip_builder.specs.declared.ranks.Arrival.{Arrival};
 ghost use Rattle.trip_builder.specs.Ends.{IsEnd, AreEnds};
 
 use crate::chain::has_run;
 use crate::ends::{End, Ends};
-use crate::trip::TripWish;
-use offer_codes::Segment;
 use rail_ids::RunNo;
 use std::alloc::{AllocError, Global};
 use std::marker::Model;
-use train_runs::Runs;
+use train_runs::{Runs, Segment, TripWish};
 
 /// Later than each arrival.
 pub(crate) const NEVER: u64 = u64::MAX;

@@ -1,14 +1,13 @@
 ghost use Rattle.std.specs.Prelude.{◌≡◌, ◌<◌, ◌≤◌, ◌+◌, ◌-◌, ℕ, true, false, length, IfOk};
 ghost use Rattle.train_runs.specs.Runs.{RunsView};
-ghost use Rattle.trip_builder.specs.declared.trip.TripWish.{TripWish};
+ghost use Rattle.train_runs.specs.declared.wish.TripWish.{TripWish};
 ghost use Rattle.trip_builder.specs.Reached.{Hold, HoldTrain, HoldWait, AreStretched, IsRidden, AreReached, IsNear};
 
 use crate::departures::{LONGEST_WAIT, stops_of};
-use crate::trip::TripWish;
 use rail_ids::{RunNo, StationNo};
 use std::alloc::{AllocError, Global};
 use std::marker::Model;
-use train_runs::{Runs, Stop};
+use train_runs::{Runs, Stop, TripWish};
 
 /// From when to when a train may be taken at a station.
 #[derive(Clone, Copy)]

@@ -1,6 +1,6 @@
 ghost use Rattle.std.specs.Prelude.{◌≡◌, ◌<◌, ◌+◌, ◌-◌, ◌*◌, ℕ, true, false, length, IfOk, slice_index_or};
 ghost use Rattle.train_runs.specs.Runs.{RunsView};
-ghost use Rattle.trip_builder.specs.declared.trip.TripWish.{TripWish};
+ghost use Rattle.train_runs.specs.declared.wish.TripWish.{TripWish};
 ghost use Rattle.trip_builder.specs.Bounds.{RanksView, AreRides, AreUnknown, FirstsOfRide, AreMarked, KeepMarks, LeavesLate, firsts_in};
 ghost use Rattle.trip_builder.specs.Reached.{AreReached, StayMarked};
 

@@ -11,10 +11,9 @@ use crate::ends::Ends;
 use crate::found::{Found, get_off, is_hopeless, longer, may_lead};
 use crate::ranks::NEVER;
 use crate::shortest::Shortest;
-use crate::trip::{Trip, TripWish};
-use offer_codes::Segment;
+use crate::trip::Trip;
 use std::alloc::{AllocError, Global};
-use train_runs::{Departure, Runs};
+use train_runs::{Departure, Runs, Segment, TripWish};
 
 /// How many segments a trip has at most.
 pub(crate) const MOST_SEGMENTS: usize = 3;

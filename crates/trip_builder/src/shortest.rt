@@ -1,18 +1,17 @@
 ghost use Rattle.std.specs.Prelude.{◌≡◌, ◌≤◌, ◌<◌, ◌^◌, ◌+◌, ℕ, [], length, List, IfOk};
 ghost use Rattle.train_runs.specs.Runs.{RunsView};
 ghost use Rattle.train_runs.specs.declared.departure.Departure.{Departure};
-ghost use Rattle.trip_builder.specs.declared.trip.TripWish.{TripWish};
+ghost use Rattle.train_runs.specs.declared.wish.TripWish.{TripWish};
 ghost use Rattle.trip_builder.specs.Segments.{stops_of as stops_of_run};
 ghost use Rattle.trip_builder.specs.Search.{Rise};
 ghost use Rattle.trip_builder.specs.Ends.{IsThere};
 ghost use Rattle.trip_builder.specs.Shortest.{ride_from as ride_from_in, AreLowered, AreRidesTo, AreShortest, AreFromDepartures, TakesAtLeast};
 
 use crate::departures::{all_leaving, stops_of};
-use crate::trip::TripWish;
 use rail_ids::{RunNo, StationNo};
 use std::alloc::{AllocError, Global};
 use std::marker::Model;
-use train_runs::{Departure, Runs};
+use train_runs::{Departure, Runs, TripWish};
 
 /// For how many stations the rides are known at most: the first ones.
 const MOST_STATIONS: u32 = 8_192;

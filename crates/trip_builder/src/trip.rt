@@ -1,19 +1,8 @@
 ghost use Rattle.std.specs.Prelude.{◌≡◌, ◌≤◌, length};
 
 use arrayvec::ArrayVec;
-use offer_codes::Segment;
-use rail_ids::StationNo;
-use rail_time::Moment;
 use std::marker::Model;
-
-/// From where to where a retailer wishes to go, and the window of the first departure, with both its ends.
-#[derive(Clone, Copy, PartialEq, Eq)]
-pub struct TripWish {
-    pub origin: StationNo,
-    pub destination: StationNo,
-    pub earliest: Moment,
-    pub latest: Moment,
-}
+use train_runs::Segment;
 
 /// One to three segments, in the order of travel. Contracts see their list.
 #[derive(Drop)]
@@ -23,7 +12,7 @@ pub struct Trip {
 
 impl Model for Trip {
     ghost use Rattle.std.specs.Prelude.{◌≤◌, List, length};
-    ghost use Rattle.offer_codes.specs.declared.code.Segment.{Segment};
+    ghost use Rattle.train_runs.specs.declared.segment.Segment.{Segment};
 
     ghost Value = { List Segment };
 

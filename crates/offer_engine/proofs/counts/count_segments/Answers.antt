@@ -1,7 +1,7 @@
 use Rattle.std.proofs.Common.{◌∙◌, ◌+◌, ℕ, List, take, ap, sym, subst}
 use Rattle.claim_rule.specs.Calls.{AddsStepsBy}
 use Rattle.availability.specs.Looks.{CountsFree}
-use Rattle.offer_codes.specs.declared.code.Segment.{Segment}
+use Rattle.train_runs.specs.declared.segment.Segment.{Segment}
 use Rattle.claim_rule.proofs.Out.{holds_then, endings_then}
 use Rattle.offer_engine.specs.Offers.{wanted_places, CountsSegments}
 use Rattle.offer_engine.proofs.Counting.{counted_next}

@@ -1,6 +1,6 @@
 use Rattle.std.proofs.Common.{◌∙◌, List, [], ◌∷◌, ◌++◌, ap, subst}
 use Rattle.osdm_texts.specs.Answers.{told_of}
-use Rattle.offer_codes.specs.declared.code.Segment.{Segment}
+use Rattle.train_runs.specs.declared.segment.Segment.{Segment}
 use Rattle.reservation_service.specs.Reserving.{reserved, AnswersReserving}
 use Rattle.reservation_service.proofs.booking.reserve_places.Goals as goal
 

@@ -1,5 +1,5 @@
 use Rattle.std.proofs.Common.{ℕ, ◌<◌, get_or}
-use Rattle.offer_codes.specs.declared.code.Segment.{Segment}
+use Rattle.train_runs.specs.declared.segment.Segment.{Segment}
 use Rattle.trip_builder.specs.Segments.{IsKnown}
 use Rattle.trip_builder.proofs.ahead.are_known.Given as goal
 

@@ -1,6 +1,6 @@
 use Rattle.std.proofs.Common.{◌≡◌, ◌<◌, ◌≤◌, true, false, List, length, sym, subst, get_or}
 use Rattle.std.specs.List.{AllWithin}
-use Rattle.offer_codes.specs.declared.code.Segment.{Segment}
+use Rattle.train_runs.specs.declared.segment.Segment.{Segment}
 use Rattle.trip_builder.specs.Order.{stands_before}
 use Rattle.trip_builder.specs.Best.{IsTrip, IsDecided}
 use Rattle.trip_builder.specs.Search.{Grows}

@@ -1,5 +1,5 @@
 use Rattle.std.proofs.Common.{◌≡◌, length}
-use Rattle.trip_builder.specs.declared.trip.TripWish.{TripWish}
+use Rattle.train_runs.specs.declared.wish.TripWish.{TripWish}
 use Rattle.trip_builder.specs.Bounds.{AreRanks, AreRides, AreBoards}
 use Rattle.trip_builder.proofs.bounds.boards_of.Given as goal
 

@@ -1,7 +1,7 @@
 use Rattle.std.proofs.Common.{◌≡◌, ◌-◌, ◌+◌, ◌<◌, ℕ, List, length, refl, ap, arith}
 use Rattle.train_runs.specs.declared.run.Stop.{Stop}
-use Rattle.trip_builder.specs.declared.trip.TripWish.{TripWish}
-use Rattle.trip_builder.specs.Segments.{stops_of}
+use Rattle.train_runs.specs.declared.wish.TripWish.{TripWish}
+use Rattle.train_runs.specs.Runs.{stops_of}
 use Rattle.trip_builder.specs.Bounds.{IsReach, FirstsOfRide}
 use Rattle.trip_builder.proofs.Boarding.{stop_is}
 use Rattle.trip_builder.proofs.Reaching.{ride_firsts, firsts_more, marked_more, run_marked}

@@ -1,6 +1,6 @@
 use Rattle.std.proofs.Common.{◌≡◌, ◌+◌, List, length, ap, arith}
 use Rattle.train_runs.specs.declared.run.Stop.{Stop}
-use Rattle.trip_builder.specs.Segments.{stops_of}
+use Rattle.train_runs.specs.Runs.{stops_of}
 use Rattle.trip_builder.proofs.Boarding.{stop_is}
 use Rattle.trip_builder.proofs.Reaching.{below_more, below_all}
 use Rattle.trip_builder.proofs.bounds.firsts_after.Goals as goal

@@ -1,5 +1,5 @@
 use Rattle.std.proofs.Common.{ℕ, ◌≤◌, ◌<◌, ◌+◌}
-use Rattle.trip_builder.specs.declared.trip.TripWish.{TripWish}
+use Rattle.train_runs.specs.declared.wish.TripWish.{TripWish}
 use Rattle.trip_builder.specs.Bounds.{IsReach, Precede, no_rank}
 use Rattle.trip_builder.proofs.Reaching.{FirstsBelow}
 use Rattle.trip_builder.proofs.bounds.firsts_after.Given as goal

@@ -4,7 +4,7 @@ use Rattle.std.proofs.lemmas.List.Elements.{at_read}
 use Rattle.std.proofs.Math.Seq.{get_or-append_seam}
 use Rattle.train_runs.specs.declared.departure.Departure.{Departure}
 use Rattle.train_runs.specs.Runs.{RunsView}
-use Rattle.trip_builder.specs.declared.trip.TripWish.{TripWish}
+use Rattle.train_runs.specs.declared.wish.TripWish.{TripWish}
 use Rattle.trip_builder.specs.declared.ranks.FirstTwo.{FirstTwo}
 use Rattle.trip_builder.specs.Bounds.{RanksView, FirstsOfRide}
 use Rattle.trip_builder.proofs.Deciding.{one_further}

@@ -1,6 +1,6 @@
 use Rattle.std.proofs.Common.{◌≡◌, ◌∙◌, ◌+◌, ◌-◌, ◌<◌, ℕ, List, length, get_or, sym, ap, subst, arith}
 use Rattle.std.proofs.lemmas.Result.{IfOk-weaker}
-use Rattle.trip_builder.specs.declared.trip.TripWish.{TripWish}
+use Rattle.train_runs.specs.declared.wish.TripWish.{TripWish}
 use Rattle.trip_builder.specs.declared.rides.Rides.{Rides}
 use Rattle.train_runs.specs.Runs.{RunsView}
 use Rattle.trip_builder.specs.Bounds.{RanksView, ReachView, BoundsView, AreRanks, AreRides, AreBounds, IsReach}

@@ -1,5 +1,5 @@
 use Rattle.std.proofs.Common.{◌≡◌, ◌∙◌, ℕ, Bool, true, false, not, List, inl, refl, sym, subst, true≢false}
-use Rattle.offer_codes.specs.declared.code.Segment.{Segment}
+use Rattle.train_runs.specs.declared.segment.Segment.{Segment}
 use Rattle.trip_builder.specs.Segments.{segment}
 use Rattle.trip_builder.specs.Search.{AreDecidedFrom}
 use Rattle.trip_builder.specs.Keeping.{IsOutdone}

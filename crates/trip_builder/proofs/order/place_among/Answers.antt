@@ -1,5 +1,5 @@
 use Rattle.std.proofs.Common.{◌≡◌, ◌∙◌, ◌+◌, ◌/◌, ◌<◌, true, false, List, length, sym, subst, arith, get_or}
-use Rattle.offer_codes.specs.declared.code.Segment.{Segment}
+use Rattle.train_runs.specs.declared.segment.Segment.{Segment}
 use Rattle.trip_builder.specs.Order.{stands_before}
 use Rattle.trip_builder.proofs.Placing.{before_side, after_side}
 use Rattle.trip_builder.proofs.order.place_among.Goals as goal

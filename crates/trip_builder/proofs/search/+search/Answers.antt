@@ -1,9 +1,10 @@
 use Rattle.std.proofs.Common.{◌≡◌, ◌∙◌, ◌<◌, ℕ, suc, ◌+◌, ◌-◌, ◌++◌, ◌∷◌, [], List, length, length-append, ap, sym, subst, arith, get_or, inl, ⊎_elim}
 use Rattle.std.proofs.lemmas.List.Elements.{at_read}
 use Rattle.train_runs.specs.declared.run.Stop.{Stop}
-use Rattle.offer_codes.specs.declared.code.Segment.{Segment}
+use Rattle.train_runs.specs.declared.segment.Segment.{Segment}
 use Rattle.train_runs.specs.declared.departure.Departure.{Departure}
-use Rattle.trip_builder.specs.Segments.{segment, stops_of, last_stop}
+use Rattle.train_runs.specs.Runs.{stops_of}
+use Rattle.trip_builder.specs.Segments.{segment, last_stop}
 use Rattle.trip_builder.specs.Search.{IsWay, Leaves, Grows, AreDecided, AreDecidedWith}
 use Rattle.trip_builder.specs.Bounds.{never}
 use Rattle.trip_builder.specs.Keeping.{IsSearch, IsOutdone}

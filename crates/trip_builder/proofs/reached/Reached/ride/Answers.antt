@@ -1,7 +1,7 @@
 use Rattle.std.proofs.Common.{◌≡◌, ◌<◌, ◌+◌, true, List, length, ap, sym, subst, arith}
 use Rattle.train_runs.specs.declared.run.Stop.{Stop}
 use Rattle.train_runs.specs.Stops.{stop_at}
-use Rattle.trip_builder.specs.Segments.{stops_of}
+use Rattle.train_runs.specs.Runs.{stops_of}
 use Rattle.trip_builder.specs.Trips.{longest_wait}
 use Rattle.trip_builder.specs.Reached.{HoldTrain, HoldWait}
 use Rattle.trip_builder.proofs.Deciding.{one_further}

@@ -1,6 +1,6 @@
 use Rattle.std.proofs.Common.{◌≡◌, ◌<◌, ℕ, true}
 use Rattle.train_runs.specs.Stops.{stop_at}
-use Rattle.trip_builder.specs.Segments.{stops_of}
+use Rattle.train_runs.specs.Runs.{stops_of}
 use Rattle.trip_builder.specs.Reached.{HoldTrain, HoldWait, AreStretched}
 use Rattle.trip_builder.proofs.reached.Reached.ride.Given as goal
 

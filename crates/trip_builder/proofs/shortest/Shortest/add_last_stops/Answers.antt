@@ -1,5 +1,5 @@
 use Rattle.std.proofs.Common.{◌≡◌, ◌+◌, ℕ, length, arith}
-use Rattle.trip_builder.specs.Segments.{stops_of}
+use Rattle.train_runs.specs.Runs.{stops_of}
 use Rattle.trip_builder.specs.Ends.{IsThere}
 use Rattle.trip_builder.specs.Shortest.{AreRidesTo}
 use Rattle.trip_builder.proofs.Deciding.{one_further}

@@ -1,5 +1,5 @@
 use Rattle.std.proofs.Common.{◌≡◌, ℕ, ◌<◌, ◌+◌, length}
-use Rattle.trip_builder.specs.Segments.{stops_of}
+use Rattle.train_runs.specs.Runs.{stops_of}
 use Rattle.trip_builder.specs.Ends.{IsThere}
 use Rattle.trip_builder.specs.Shortest.{AreLowered, AreRidesTo}
 use Rattle.trip_builder.proofs.shortest.Shortest.add_last_stops.Given as goal

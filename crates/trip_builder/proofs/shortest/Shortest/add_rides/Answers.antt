@@ -1,7 +1,7 @@
 use Rattle.std.proofs.Common.{◌≡◌, ◌-◌, List, ap, arith}
 use Rattle.train_runs.specs.declared.run.Stop.{Stop}
 use Rattle.train_runs.specs.Stops.{stop_at}
-use Rattle.trip_builder.specs.Segments.{stops_of}
+use Rattle.train_runs.specs.Runs.{stops_of}
 use Rattle.trip_builder.specs.Shortest.{IsRide}
 use Rattle.trip_builder.proofs.Deciding.{one_further}
 use Rattle.trip_builder.proofs.Riding.{lowered_on, ride_stays, ride_taken}

@@ -1,6 +1,6 @@
 use Rattle.std.proofs.Common.{ℕ, ◌<◌}
 use Rattle.train_runs.specs.Stops.{stop_at}
-use Rattle.trip_builder.specs.Segments.{stops_of}
+use Rattle.train_runs.specs.Runs.{stops_of}
 use Rattle.trip_builder.specs.Shortest.{AreLowered, IsRide}
 use Rattle.trip_builder.proofs.shortest.Shortest.add_rides.Given as goal
 
