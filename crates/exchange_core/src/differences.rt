@@ -5,9 +5,9 @@ ghost use Rattle.offer_codes.specs.Offers.{is_offer, offer_view};
 ghost use Rattle.exchange_core.specs.Exchanges.{difference_at as difference_of};
 
 use booking_rows::RowView;
+use catalogue_contents::Catalogue;
 use offer_codes::OfferCode;
 use offer_prices::price_of_offer;
-use catalogue_contents::Catalogue;
 use rail_time::Moment;
 use refund_core::refund_at;
 use tariff::exchange_difference;

@@ -11,10 +11,10 @@ ghost use Rattle.exchange_core.specs.Exchanges.{QuotesExchange, IfQuoted};
 
 use crate::copies::copy_of_offer;
 use crate::differences::difference_at;
+use catalogue_contents::Catalogue;
 use claim_rule::{Books, Desk};
 use history_model::phase::Phase;
 use offer_codes::{ExchangeCode, OfferCode};
-use catalogue_contents::Catalogue;
 use rail_ids::{RetailerNo, RowNo};
 use rail_time::Moment;
 use refund_core::{find_booking, is_collected};

@@ -12,10 +12,10 @@ ghost use Rattle.exchange_core.specs.Exchanges.{Readies, IfFine};
 
 use crate::copies::copy_of_exchange;
 use crate::differences::difference_at;
+use catalogue_contents::Catalogue;
 use claim_rule::{Books, Desk};
 use history_model::phase::Phase;
 use offer_codes::ExchangeCode;
-use catalogue_contents::Catalogue;
 use rail_ids::RetailerNo;
 use rail_time::Moment;
 use refund_core::{find_booking, is_named, is_stale};

@@ -11,10 +11,10 @@ ghost use Rattle.host_catalogue.specs.declared.journal.RecoverFault.TheVariants.
 use crate::file::{File, LoadFault, fetch_text};
 use crate::load::load_catalogue;
 use crate::opening::import_text;
+use catalogue_contents::Catalogue;
 use claim_rule::{Books, Desk};
 use cold_store::ImportFault;
 use journal_text::{Folded, JournalFault, fold};
-use catalogue_contents::Catalogue;
 use rail_io::Shelf;
 use row_cuts::print_of;
 use std::alloc::{AllocError, Global};

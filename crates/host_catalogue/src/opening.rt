@@ -13,9 +13,9 @@ ghost use Rattle.host_catalogue.specs.Opening.{IsOpenedFrom, export_name, new_la
 
 use crate::file::{File, LoadFault, fetch_text};
 use crate::load::load_catalogue;
+use catalogue_contents::Catalogue;
 use claim_rule::{Books, Desk, start_books};
 use cold_store::{ImportFault, import_books};
-use catalogue_contents::Catalogue;
 use rail_io::Shelf;
 use std::alloc::{AllocError, Global};
 

@@ -5,8 +5,8 @@ ghost use Rattle.claim_rule.specs.Desks.{IsOf};
 ghost use Rattle.claim_rule.specs.Out.{IsIdle};
 ghost use Rattle.host_drill.specs.Connections.{Serves};
 
-use claim_rule::{Books, Desk};
 use catalogue_contents::Catalogue;
+use claim_rule::{Books, Desk};
 use rail_io::{BytesSource, ScriptClock, VecSink};
 use rail_service::serve_connection;
 use session_loop::ConnEnd;

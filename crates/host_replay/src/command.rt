@@ -21,10 +21,10 @@ ghost use Rattle.host_replay.specs.declared.end.ReplayEnd.{ReplayEnd};
 ghost use Rattle.host_replay.specs.declared.end.ReplayEnd.TheVariants.{Served};
 
 use crate::end::{ReplayEnd, command_end};
+use catalogue_contents::Catalogue;
 use claim_rule::{Books, Desk};
 use host_catalogue::{CommandEnd, end_command, load_books};
 use host_words::{ReplayWords, WordsFault, read_replay};
-use catalogue_contents::Catalogue;
 use rail_io::{ScriptClock, Shelf, Sink, Source};
 use rail_service::serve_connection;
 use session_loop::ConnEnd;

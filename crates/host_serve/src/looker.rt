@@ -5,10 +5,10 @@ ghost use Rattle.claim_rule.specs.Desks.{IsOf};
 ghost use Rattle.claim_rule.specs.Out.{AllLooks, IsTidy};
 ghost use Rattle.host_serve.specs.Serve.{some_count};
 
+use catalogue_contents::Catalogue;
 use claim_rule::{Books, Desk};
 use host_journal::Watcher;
 use host_window::{Findings, Found};
-use catalogue_contents::Catalogue;
 use row_cuts::{SoldCount, count_rows, count_sold};
 use std::sync::Wait;
 use worker_pool::TurnEnd;

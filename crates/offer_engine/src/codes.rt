@@ -4,8 +4,8 @@ ghost use Rattle.offer_codes.specs.Offers.{offer_view};
 ghost use Rattle.offer_prices.specs.Runs.{is_of_runs as is_of_runs_of};
 ghost use Rattle.offer_engine.specs.Codes.{is_offered as is_offered_of};
 
-use offer_codes::{OfferCode, Segment};
 use catalogue_contents::Catalogue;
+use offer_codes::{OfferCode, Segment};
 use train_runs::Runs;
 use trip_builder::{are_connected, first_stop_of, last_stop_of};
 

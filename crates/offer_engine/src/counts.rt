@@ -12,11 +12,11 @@ ghost use Rattle.offer_engine.specs.Offers.{CountsSegment, CountsSegments};
 use crate::wish::OfferWish;
 use arrayvec::ArrayVec;
 use availability::{free_in_row, free_places};
+use catalogue_contents::Catalogue;
 use claim_rule::{Books, Desk};
 use leg_masks::Span;
 use offer_codes::Segment;
 use place_map::Place;
-use catalogue_contents::Catalogue;
 use rail_ids::PlaceNo;
 
 /// How many of each segment's wanted places are free on it, by a look at each piece of each place. Takes no memory.

@@ -8,10 +8,10 @@ ghost use Rattle.offer_engine.specs.Offers.{raised as raised_of, MakesOffers, Be
 
 use crate::counts::count_segments;
 use crate::wish::OfferWish;
+use catalogue_contents::Catalogue;
 use claim_rule::{Books, Desk};
 use offer_codes::{Offer, OfferCode};
 use offer_prices::price_of_offer;
-use catalogue_contents::Catalogue;
 use rail_time::Moment;
 use std::alloc::{AllocError, Global};
 use trip_builder::{Trip, TripWish, trips};

@@ -13,10 +13,10 @@ use crate::members::{put_amount, put_booking_id, put_flag, put_price, put_text, 
 use crate::problem::phase_text;
 use crate::reservations::put_reservations;
 use booking_rows::{EndView, RowView};
+use catalogue_contents::Catalogue;
 use history_model::phase::{EndKind, Phase};
 use json::Writer;
 use leg_masks::Item;
-use catalogue_contents::Catalogue;
 use rail_ids::RowNo;
 use rail_time::Moment;
 use std::alloc::AllocError;

@@ -7,9 +7,9 @@ ghost use Rattle.osdm_texts.specs.Appends.{Appends, tokens_of, listed};
 use crate::ids::{offer_id, text_of};
 use crate::members::{put_count, put_price, put_text, put_time};
 use crate::spots::{run_stop, stop_code, train_number};
+use catalogue_contents::Catalogue;
 use json::Writer;
 use offer_codes::{Offer, Segment, VALID_SECONDS};
-use catalogue_contents::Catalogue;
 use std::alloc::AllocError;
 
 pub(crate) fn put_offers(

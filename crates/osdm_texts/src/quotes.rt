@@ -7,9 +7,9 @@ ghost use Rattle.osdm_texts.specs.Appends.{Appends, tokens_of};
 
 use crate::ids::{exchange_id, refund_id, text_of};
 use crate::members::{put_amount, put_price, put_text, put_time};
+use catalogue_contents::Catalogue;
 use json::Writer;
 use offer_codes::{ExchangeCode, RefundCode, VALID_SECONDS};
-use catalogue_contents::Catalogue;
 use std::alloc::AllocError;
 
 pub(crate) fn put_refund(

@@ -19,9 +19,9 @@ use crate::quotes::{put_exchange, put_refund};
 use crate::small::{small_text, swept_text};
 use crate::spots::run_places;
 use booking_rows::{RowView, Swept};
+use catalogue_contents::Catalogue;
 use json::Writer;
 use offer_codes::{ExchangeCode, Offer, RefundCode};
-use catalogue_contents::Catalogue;
 use rail_ids::{RowNo, RunNo};
 use std::alloc::{AllocError, Global};
 

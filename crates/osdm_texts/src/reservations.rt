@@ -8,9 +8,9 @@ ghost use Rattle.osdm_texts.specs.Appends.{Appends, tokens_of, listed};
 
 use crate::members::{put_count, put_text};
 use crate::spots::{place_at, stop_code, train_number};
+use catalogue_contents::Catalogue;
 use json::Writer;
 use leg_masks::{Item, Span, WORD_LEGS};
-use catalogue_contents::Catalogue;
 use std::alloc::AllocError;
 use std::marker::Model;
 

@@ -3,8 +3,8 @@ ghost use Rattle.std.specs.Prelude.{◌≡◌};
 ghost use Rattle.train_runs.specs.Stops.{stop_at as stop_at_of, no_stop as no_stop_of};
 ghost use Rattle.osdm_texts.specs.Spots.{run_stop as run_stop_of, station_code as station_code_of, stop_code as stop_code_of, train_of as train_number_of, place_at as place_at_of, run_places as run_places_of};
 
-use place_map::{Class, Place};
 use catalogue_contents::Catalogue;
+use place_map::{Class, Place};
 use rail_ids::{RunNo, StationNo};
 use rail_time::Moment;
 use train_runs::Stop;

@@ -14,9 +14,9 @@ use crate::bookings::Shown;
 use crate::reply::{Reply, reply_text, shown_text};
 use crate::small::swept_text;
 use booking_rows::{Detail, Swept};
+use catalogue_contents::Catalogue;
 use history_model::phase::Phase;
 use leg_masks::Item;
-use catalogue_contents::Catalogue;
 use rail_ids::RowNo;
 use std::alloc::Global;
 

@@ -9,10 +9,10 @@ ghost use Rattle.rail_service.specs.Serving.{admitted as admitted_of, ReadsAs, H
 use crate::reach::name_of;
 use crate::resource::Resource;
 use crate::routing::find_route;
+use catalogue_contents::Catalogue;
 use http_wire::{Intake, Request};
 use matchit::Router;
 use osdm_json::{BodyRoom, Command, Problem, Route, read_command_in};
-use catalogue_contents::Catalogue;
 use rail_ids::RetailerNo;
 use rail_io::Clock;
 

@@ -16,10 +16,10 @@ ghost use Rattle.rail_service.specs.Responding.{view_of};
 
 use crate::resource::start_router;
 use crate::service::Service;
+use catalogue_contents::Catalogue;
 use claim_rule::{Books, Desk};
 use http_wire::Intake;
 use osdm_json::BodyRoom;
-use catalogue_contents::Catalogue;
 use rail_io::{Clock, Sink, Source};
 use session_loop::{ConnEnd, Outlet, run_permitted};
 use std::alloc::Global;

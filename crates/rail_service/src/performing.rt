@@ -22,11 +22,11 @@ use crate::answering::answer_of;
 use booking_service::{
     confirm_booking, fulfil_booking, release_booking, show_booking, sweep_bookings,
 };
+use catalogue_contents::Catalogue;
 use claim_rule::{Books, Desk};
 use http_wire::Answer;
 use osdm_json::{Command, Problem};
 use osdm_texts::Written;
-use catalogue_contents::Catalogue;
 use rail_ids::RetailerNo;
 use rail_io::Clock;
 use rail_time::Moment;

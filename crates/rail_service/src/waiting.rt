@@ -12,8 +12,8 @@ ghost use Rattle.rail_service.specs.Moments.{CutGiven, HandsReplies, PermitsRepl
 ghost use Rattle.rail_service.specs.OneThread.{ServesAlone};
 
 use crate::connection::serve_permitted;
-use claim_rule::{Books, Desk};
 use catalogue_contents::Catalogue;
+use claim_rule::{Books, Desk};
 use rail_io::{Clock, Sink, Source};
 use session_loop::{ConnEnd, Outlet};
 use std::alloc::Global;

@@ -11,10 +11,10 @@ ghost use Rattle.booking_rows.specs.Views.{other_looks};
 ghost use Rattle.refund_core.specs.Quotes.{FindsBooking, phase_named as phase_named_of, is_stale as is_stale_at, refund_at as worth_at};
 
 use booking_rows::{RowView, look_row};
+use catalogue_contents::Catalogue;
 use claim_rule::{Books, Desk};
 use history_model::phase::Phase;
 use offer_codes::VALID_SECONDS;
-use catalogue_contents::Catalogue;
 use rail_ids::{RetailerNo, RowNo};
 use rail_time::Moment;
 use tariff::refund_value;

@@ -9,10 +9,10 @@ ghost use Rattle.booking_rows.specs.Views.{other_looks};
 ghost use Rattle.refund_core.specs.Refunding.{QuotesRefund, IfQuoted};
 
 use crate::quotes::{find_booking, is_collected, refund_at};
+use catalogue_contents::Catalogue;
 use claim_rule::{Books, Desk};
 use history_model::phase::Phase;
 use offer_codes::RefundCode;
-use catalogue_contents::Catalogue;
 use rail_ids::{RetailerNo, RowNo};
 use rail_time::Moment;
 

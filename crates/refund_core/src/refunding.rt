@@ -8,11 +8,11 @@ ghost use Rattle.refund_core.specs.Refunding.{AcceptsRefund, IfRefunded, IsRefun
 
 use crate::quotes::{find_booking, is_named, is_stale, phase_named, refund_at};
 use booking_rows::Aim;
+use catalogue_contents::Catalogue;
 use claim_rule::{Books, Desk};
 use confirm_core::end_row;
 use history_model::phase::Phase;
 use offer_codes::RefundCode;
-use catalogue_contents::Catalogue;
 use rail_ids::RetailerNo;
 use rail_time::Moment;
 

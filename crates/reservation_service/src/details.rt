@@ -5,9 +5,9 @@ ghost use Rattle.history_model.specs.Booking.{greatest_amount};
 ghost use Rattle.reservation_service.specs.Reserving.{detail_of};
 
 use booking_rows::Detail;
+use catalogue_contents::Catalogue;
 use offer_codes::OfferCode;
 use offer_prices::price_of_offer;
-use catalogue_contents::Catalogue;
 use shop::Asker;
 
 /// The detail of a booking of the offer that is made at the asker's moment: its retailer, the sum of the prices of its

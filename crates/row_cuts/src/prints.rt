@@ -3,10 +3,10 @@ ghost use Rattle.std.specs.Prelude.{◌≡◌, ◌++◌, IfOk, OnOk};
 ghost use Rattle.row_cuts.specs.Prints.{class_text, place_text, places_text, print_in, run_text, run_text_at};
 ghost use Rattle.row_cuts.specs.Prints.{runs_text, stop_text, stops_text};
 
+use catalogue_contents::Catalogue;
 use cold_store::push_field;
 use journal_text::Sum;
 use place_map::{Class, Place};
-use catalogue_contents::Catalogue;
 use rail_ids::RunNo;
 use std::alloc::{AllocError, Global};
 use train_runs::{Run, Runs, Stop};

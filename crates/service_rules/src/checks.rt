@@ -5,10 +5,10 @@ ghost use Rattle.service_rules.specs.Checks.{aged, checked, offer_checked, row_c
 ghost use Rattle.service_rules.specs.Orders.{order_view, IsOrder, IsSoundOrder};
 
 use crate::order::Order;
+use catalogue_contents::Catalogue;
 use offer_codes::{ExchangeCode, OfferCode, RefundCode, VALID_SECONDS};
 use offer_engine::{OfferWish, is_offered};
 use osdm_json::{Command, Problem};
-use catalogue_contents::Catalogue;
 use rail_ids::RowNo;
 use rail_time::Moment;
 use reservation_service::Reservation;

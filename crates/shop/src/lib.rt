@@ -10,8 +10,8 @@
 ghost use Rattle.std.specs.Prelude.{◌≡◌};
 ghost use Rattle.catalogue_contents.specs.Contents.{legs_in};
 
-use claim_rule::Books;
 use catalogue_contents::Catalogue;
+use claim_rule::Books;
 use rail_ids::RetailerNo;
 use rail_time::Moment;
 use std::alloc::Global;
