@@ -33,7 +33,7 @@ UNTOLD = re.compile(r"^impl\b[^{]*? for (\w+)[^{]*\{(?:(?!^\}).)*?ghost told = \
 # The subjects in reading order, each with the crates whose definitions belong to it. A crate that isn't named has the last one.
 SUBJECTS = [
     ("Numbers", "rail_ids leg_masks rail_time step_count"),
-    ("What is sold", "json_text train_runs place_map tariff rail_catalogue offer_codes"),
+    ("What is sold", "json_text train_runs place_map tariff catalogue_contents rail_catalogue offer_codes"),
     ("The booking machine", "history_model"),
     ("Desks and their calls", "claim_rule seat_words booking_rows"),
     ("Searches", "trip_builder availability offer_prices offer_engine"),

@@ -16,7 +16,7 @@ HERE = pathlib.Path(__file__).resolve().parent
 ROOT = HERE.parent.parent
 # why a program is refused, by the first word of its name
 WHY = {"drops": "error[linear-value-let-go]", "takes": "error[private-field]"}
-LIBRARIES = "rail_service rail_io rail_catalogue booking_rows claim_rule"
+LIBRARIES = "rail_service rail_io catalogue_contents booking_rows claim_rule"
 # `rt try` builds a library with its tests alone
 TEST = "\n#[test]\nfn is_built() {}\n"
 
