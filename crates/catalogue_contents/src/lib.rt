@@ -1,8 +1,7 @@
-//! What a catalogue has, and what it is asked: stations and runs, fares, places, retailers, rows and terms.
+//! All that is sold, as it is asked: stations and runs, fares, places, retailers, rows and terms.
 //!
-//! Contracts see a `Catalogue` as a `CatalogueView`. `rail_catalogue` reads it from its file. It is never changed, and
-//! takes no memory when it is asked, but where it copies the legs of its places. `crosses` is the proof that threads
-//! may share it.
+//! Contracts see a `Catalogue` as a `CatalogueView`. `rail_catalogue` reads it from its file. It is never changed. Only
+//! `legs`, which lists the legs of all places, takes memory. `crosses` is the proof that threads may share it.
 #![tactic(auto)]
 
 mod catalogue;

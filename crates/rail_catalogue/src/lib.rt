@@ -2,8 +2,8 @@
 //!
 //! `read_catalogue` answers a catalogue exactly for a text of the format, with exactly its contents, and else the first
 //! fault in the order of the format, with the path of the member at fault. `Format` in `specs/` defines both, member by
-//! member in the order in which they are tried. A `Catalogue` is never changed; threads share it. What it is asked
-//! stands in `catalogue_contents`, so that whoever only asks doesn't wait for the reader's proofs.
+//! member in the order in which they are tried. What a `Catalogue` is asked stands in `catalogue_contents`, so that
+//! whoever only asks it doesn't stand on its reader.
 #![tactic(auto)]
 
 mod coaches;
