@@ -19,10 +19,10 @@ use crate::log::{Head, Kept, Lines, Log};
 use crate::opened::Opened;
 use answer_gate::Cuts;
 use catalogue_contents::Catalogue;
-use host_catalogue::{JournalRefusal, LoadFault, fold_books, import_from, open_books};
+use host_catalogue::{JournalRefusal, LoadFault, fold_books, import_from, open_books, print_of};
 use host_words::ServeWords;
 use rail_io::{Journal, JournalOpened, Shelf};
-use row_cuts::{export_rows, print_of};
+use row_cuts::export_rows;
 use std::alloc::{AllocError, Global};
 
 /// The most bytes that a journal may have at a start.
