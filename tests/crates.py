@@ -27,7 +27,7 @@ KEPT = [
     ("the system is touched at the edge alone", r"\bstd::(fs|net(?!::IpAddr)|env|process|io|time)\b", {"rail_io", "host_io", "host_window", "rail_host"}),
     ("no call waits, but where its type says Wait", r"\bWait\b", {"worker_pool", "answer_gate", "host_journal", "host_serve", "host_window", "rail_host"}),
     ("threads start in three crates", r"\bthread::(scope|join|for_each_mut|spawn)\b", {"worker_pool", "host_drill", "rail_host"}),
-    ("no check of the compiler is passed by", r"\bunsafe\b", {"osdm_texts"}),
+    ("no check of the compiler is passed by", r"\bunsafe\b", {"osdm_parts"}),
     (
         "the search of trips is cited by nobody",
         r"\btrip_builder\.specs\.(declared\.(best|boards?|bounds|ends|found|hints|ranks|reached|rests|rides|shortest)|Best|Boards|Bounds|Ends|Keeping|Reached|Search|Shortest)\b",

@@ -39,7 +39,7 @@ SUBJECTS = [
     ("Searches", "trip_builder availability offer_prices offer_engine"),
     ("A booking's life", "hold_core party_places confirm_core refund_core exchange_core expiry_sweeper"),
     ("The wire", "rail_io http_wire session_loop"),
-    ("Messages", "osdm_texts osdm_json"),
+    ("Messages", "osdm_parts osdm_texts osdm_json"),
     ("What commands do", "booking_service reservation_service trade_service search_service service_laws service_rules"),
     ("The host of one thread", "lone_desk plain_host"),
     ("A connection", "rail_service"),

@@ -6,9 +6,9 @@ use Rattle.claim_rule.specs.Rule.{DeskView}
 use Rattle.claim_rule.specs.Calls.{AddsStepsBy}
 use Rattle.booking_rows.specs.Views.{RowSeen}
 use Rattle.catalogue_contents.specs.Contents.{CatalogueView}
-use Rattle.osdm_texts.specs.declared.problem.Problem.{Problem}
+use Rattle.osdm_parts.specs.declared.problem.Problem.{Problem}
 use Rattle.osdm_texts.specs.declared.written.Written.{Written}
-use Rattle.osdm_texts.specs.declared.problem.Problem.TheVariants.{UnknownBooking, NoMemory}
+use Rattle.osdm_parts.specs.declared.problem.Problem.TheVariants.{UnknownBooking, NoMemory}
 use Rattle.osdm_texts.specs.Answers.{Reply, booking, problem, Told, refused, reply_told, told_of, Tells}
 use Rattle.osdm_texts.proofs.Telling.{of_problem}
 use Rattle.refund_core.specs.Quotes.{FindsBooking}

@@ -21,7 +21,7 @@ use Rattle.refund_core.specs.declared.releasing.Released.{Released}
 use Rattle.refund_core.specs.declared.releasing.Released.TheVariants as released
 use Rattle.refund_core.specs.Releasing.{Releases}
 use Rattle.refund_core.specs.Quotes.{FindsBooking}
-use Rattle.osdm_texts.specs.declared.problem.Problem.TheVariants.{UnknownBooking, TooLate, WrongState, NoMemory}
+use Rattle.osdm_parts.specs.declared.problem.Problem.TheVariants.{UnknownBooking, TooLate, WrongState, NoMemory}
 use Rattle.osdm_texts.specs.Answers.{Reply, booking, problem, Told, reply_told}
 use Rattle.catalogue_contents.specs.Contents.{CatalogueView}
 

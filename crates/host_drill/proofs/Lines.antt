@@ -4,9 +4,9 @@ use Rattle.std.specs.Fmt.{digits}
 use Rattle.serde_json.specs.Written.{compact_text}
 use Rattle.claim_rule.specs.Rule.{DeskView}
 use Rattle.catalogue_contents.specs.Contents.{CatalogueView}
-use Rattle.osdm_texts.specs.declared.problem.Problem.{Problem}
-use Rattle.osdm_texts.specs.declared.problem.Problem.TheVariants.{BadHead}
-use Rattle.osdm_texts.specs.Problems.{problem_line}
+use Rattle.osdm_parts.specs.declared.problem.Problem.{Problem}
+use Rattle.osdm_parts.specs.declared.problem.Problem.TheVariants.{BadHead}
+use Rattle.osdm_parts.specs.Problems.{problem_line}
 use Rattle.osdm_texts.specs.Answers.{Reply, offer_list, created, booking, refund_offer, exchange_offer, exchanged, place_list, swept, problem, status_of, is_problem, tree_of}
 use Rattle.rail_service.specs.Bytes.{reply_bytes}
 use Rattle.host_drill.specs.Totals.{one_if, times, refused_line, no_memory_line, busy_line}

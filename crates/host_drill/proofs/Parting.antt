@@ -29,8 +29,8 @@ use Rattle.hold_core.specs.declared.adds.Added.{Added}
 use Rattle.hold_core.specs.declared.adds.Added.TheVariants as added
 use Rattle.hold_core.specs.Tries.{Try, IsTry, IsOutcome, looks_at}
 use Rattle.hold_core.specs.Places.{Adds, IsAdding, places_won, tried, tries_steps, gives_back}
-use Rattle.osdm_texts.specs.declared.problem.Problem.{Problem}
-use Rattle.osdm_texts.specs.declared.problem.Problem.TheVariants as problems
+use Rattle.osdm_parts.specs.declared.problem.Problem.{Problem}
+use Rattle.osdm_parts.specs.declared.problem.Problem.TheVariants as problems
 use Rattle.osdm_texts.specs.Answers.{Reply, problem, status_of}
 use Rattle.reservation_service.specs.declared.holding.Placing.{Placing}
 use Rattle.reservation_service.specs.declared.holding.Placing.TheVariants.{Whole, Short, Contended, NoMemory}

@@ -9,7 +9,7 @@ use Rattle.history_model.specs.Booking.{Layout}
 use Rattle.history_model.specs.History.{entry, own}
 use Rattle.claim_rule.specs.Rule.{DeskView}
 use Rattle.catalogue_contents.specs.Contents.{CatalogueView}
-use Rattle.osdm_texts.specs.declared.problem.Problem.TheVariants.{NoMemory}
+use Rattle.osdm_parts.specs.declared.problem.Problem.TheVariants.{NoMemory}
 use Rattle.osdm_texts.specs.Answers.{Reply, problem, status_of}
 use Rattle.host_drill.specs.Generator.{drill_leg}
 use Rattle.host_drill.specs.Totals.{one_if}

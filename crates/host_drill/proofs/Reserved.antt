@@ -13,9 +13,9 @@ use Rattle.train_runs.specs.Runs.{span_of}
 use Rattle.host_drill.specs.Parts.{on_leg}
 use Rattle.claim_rule.specs.Rule.{DeskView}
 use Rattle.catalogue_contents.specs.Contents.{CatalogueView}
-use Rattle.osdm_texts.specs.declared.problem.Problem.{Problem}
-use Rattle.osdm_texts.specs.declared.problem.Problem.TheVariants.{NoMemory}
-use Rattle.osdm_texts.specs.declared.field.FieldName.TheVariants.{Run, From, To}
+use Rattle.osdm_parts.specs.declared.problem.Problem.{Problem}
+use Rattle.osdm_parts.specs.declared.problem.Problem.TheVariants.{NoMemory}
+use Rattle.osdm_parts.specs.declared.field.FieldName.TheVariants.{Run, From, To}
 use Rattle.osdm_texts.specs.Answers.{Reply, problem}
 use Rattle.osdm_json.specs.declared.route.Route.{Route}
 use Rattle.osdm_json.specs.declared.route.Route.TheVariants as route

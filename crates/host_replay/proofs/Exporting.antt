@@ -11,8 +11,8 @@ use Rattle.session_loop.specs.Session.{Chain, IsAnswered}
 use Rattle.session_loop.specs.Writes.{Writes}
 use Rattle.claim_rule.specs.Openings.{KeptBooking}
 use Rattle.claim_rule.specs.Rule.{DeskView}
-use Rattle.osdm_texts.specs.declared.problem.Problem.TheVariants.{NoMemory}
-use Rattle.osdm_texts.specs.Problems.{problem_tree}
+use Rattle.osdm_parts.specs.declared.problem.Problem.TheVariants.{NoMemory}
+use Rattle.osdm_parts.specs.Problems.{problem_tree}
 use Rattle.osdm_texts.specs.Answers.{problem}
 use Rattle.catalogue_contents.specs.Contents.{CatalogueView}
 use Rattle.rail_service.specs.Bytes.{reply_bytes}

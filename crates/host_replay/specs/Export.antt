@@ -11,7 +11,7 @@ use Rattle.claim_rule.specs.Openings.{KeptBooking, kept_bookings}
 use Rattle.claim_rule.specs.Rule.{DeskView, state_seen}
 use Rattle.cold_store.specs.Lines.{export_text_of, said_of}
 use Rattle.catalogue_contents.specs.Contents.{CatalogueView, legs_in}
-use Rattle.osdm_texts.specs.declared.problem.Problem.TheVariants.{NoMemory}
+use Rattle.osdm_parts.specs.declared.problem.Problem.TheVariants.{NoMemory}
 use Rattle.osdm_texts.specs.Answers.{problem}
 use Rattle.plain_host.specs.PlainOf.{plain_in}
 use Rattle.plain_host.specs.Settled.{IsSettled}

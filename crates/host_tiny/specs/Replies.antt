@@ -6,11 +6,11 @@ use Rattle.http_wire.specs.Answers.{head_text}
 use Rattle.http_wire.specs.declared.request.WireFault.{WireFault}
 use Rattle.http_wire.specs.declared.request.WireFault.TheVariants.{BadHead, HeadTooLarge, BodyTooLarge, Coding}
 use Rattle.http_wire.specs.declared.request.WireFault.TheVariants.{BadLength}
-use Rattle.osdm_texts.specs.declared.field.FieldName as texts
-use Rattle.osdm_texts.specs.declared.field.FieldName.TheVariants as field
-use Rattle.osdm_texts.specs.declared.problem.Problem.{Problem}
-use Rattle.osdm_texts.specs.declared.problem.Problem.TheVariants as problem
-use Rattle.osdm_texts.specs.Problems.{problem_line, problem_tree}
+use Rattle.osdm_parts.specs.declared.field.FieldName as texts
+use Rattle.osdm_parts.specs.declared.field.FieldName.TheVariants as field
+use Rattle.osdm_parts.specs.declared.problem.Problem.{Problem}
+use Rattle.osdm_parts.specs.declared.problem.Problem.TheVariants as problem
+use Rattle.osdm_parts.specs.Problems.{problem_line, problem_tree}
 use Rattle.host_tiny.specs.declared.wish.FieldName.{FieldName}
 use Rattle.host_tiny.specs.declared.wish.FieldName.TheVariants.{From, To}
 use Rattle.host_tiny.specs.declared.reply.Reply.{Reply}

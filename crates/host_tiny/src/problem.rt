@@ -2,7 +2,7 @@
 ghost use Rattle.std.specs.Prelude.{◌≡◌, IsTrue};
 ghost use Rattle.session_loop.specs.Answered.{answer_bytes};
 ghost use Rattle.http_wire.specs.Answers.{is_status};
-ghost use Rattle.osdm_texts.specs.Problems.{problem_line};
+ghost use Rattle.osdm_parts.specs.Problems.{problem_line};
 ghost use Rattle.host_tiny.specs.Replies.{problem_text};
 
 use http_wire::{Answer, Body, write_head};

@@ -1,6 +1,6 @@
 -- The problem of each fault.
-use Rattle.osdm_texts.specs.declared.problem.Problem.{Problem}
-use Rattle.osdm_texts.specs.declared.problem.Problem.TheVariants as problem
+use Rattle.osdm_parts.specs.declared.problem.Problem.{Problem}
+use Rattle.osdm_parts.specs.declared.problem.Problem.TheVariants as problem
 use Rattle.osdm_json.specs.declared.fault.BodyFault.{BodyFault}
 use Rattle.osdm_json.specs.declared.fault.BodyFault.TheVariants.{NotJson, Field, UnknownStation, NoMemory}
 

@@ -4,7 +4,7 @@ use Rattle.std.specs.Str.{bytes_eq}
 use Rattle.serde_json.specs.Data.{Data}
 use Rattle.serde_json.specs.Find.{get}
 use Rattle.rail_catalogue.specs.Json.{text_of}
-use Rattle.osdm_texts.specs.declared.field.FieldName.TheVariants.{Status, OfferId, Together, BookingId, ExchangeOfferId}
+use Rattle.osdm_parts.specs.declared.field.FieldName.TheVariants.{Status, OfferId, Together, BookingId, ExchangeOfferId}
 use Rattle.osdm_json.specs.declared.fault.BodyFault.{BodyFault}
 use Rattle.osdm_json.specs.Asked.{Asked, book, quote_exchange, accept_exchange, fulfil, accept_refund}
 use Rattle.osdm_json.specs.Members.{need, flag_in}

@@ -10,8 +10,8 @@ use Rattle.place_map.specs.declared.coach.Class.{Class}
 use Rattle.place_map.specs.declared.coach.Class.TheVariants.{Second}
 use Rattle.rail_catalogue.specs.Json.{if_in_range, list_of, text_of}
 use Rattle.rail_catalogue.specs.Coaches.{class_named, trait_named}
-use Rattle.osdm_texts.specs.declared.field.FieldName.{FieldName}
-use Rattle.osdm_texts.specs.declared.field.FieldName.TheVariants.{Body}
+use Rattle.osdm_parts.specs.declared.field.FieldName.{FieldName}
+use Rattle.osdm_parts.specs.declared.field.FieldName.TheVariants.{Body}
 use Rattle.osdm_json.specs.declared.fault.BodyFault.{BodyFault}
 use Rattle.osdm_json.specs.declared.fault.BodyFault.TheVariants.{NotJson, Field, UnknownStation}
 

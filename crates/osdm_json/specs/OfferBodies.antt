@@ -7,7 +7,7 @@ use Rattle.train_runs.specs.Stations.{station_with}
 use Rattle.train_runs.specs.declared.wish.TripWish.{TripWish}
 use Rattle.rail_catalogue.specs.Json.{whole_in, whole_or, text_of}
 use Rattle.catalogue_contents.specs.Contents.{CatalogueView}
-use Rattle.osdm_texts.specs.declared.field.FieldName.TheVariants.{Adults, Children, Class, Wanted, Origin, Destination, Earliest, Latest}
+use Rattle.osdm_parts.specs.declared.field.FieldName.TheVariants.{Adults, Children, Class, Wanted, Origin, Destination, Earliest, Latest}
 use Rattle.osdm_json.specs.declared.fault.BodyFault.{BodyFault}
 use Rattle.osdm_json.specs.declared.fault.BodyFault.TheVariants.{Field}
 use Rattle.osdm_json.specs.declared.offers.Party.{Party}

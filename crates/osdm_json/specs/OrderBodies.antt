@@ -11,7 +11,7 @@ use Rattle.train_runs.specs.Stops.{RunView}
 use Rattle.train_runs.specs.Runs.{span_of}
 use Rattle.rail_catalogue.specs.Json.{whole_in, whole_or, text_of}
 use Rattle.catalogue_contents.specs.Contents.{CatalogueView}
-use Rattle.osdm_texts.specs.declared.field.FieldName.TheVariants.{Class, Wanted, Run, Count, From, To, Together}
+use Rattle.osdm_parts.specs.declared.field.FieldName.TheVariants.{Class, Wanted, Run, Count, From, To, Together}
 use Rattle.osdm_json.specs.declared.fault.BodyFault.{BodyFault}
 use Rattle.osdm_json.specs.declared.fault.BodyFault.TheVariants.{Field}
 use Rattle.osdm_json.specs.Asked.{Asked, reserve, places}

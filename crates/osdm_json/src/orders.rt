@@ -2,7 +2,7 @@
 ghost use Rattle.std.specs.Prelude.{◌≡◌, Ok, Err, IfOk, IfErr};
 ghost use Rattle.catalogue_contents.specs.Contents.{CatalogueView};
 ghost use Rattle.json_text.specs.View.{view};
-ghost use Rattle.osdm_texts.specs.declared.field.FieldName.TheVariants.{Status};
+ghost use Rattle.osdm_parts.specs.declared.field.FieldName.TheVariants.{Status};
 ghost use Rattle.osdm_json.specs.declared.fault.BodyFault.TheVariants.{Field};
 ghost use Rattle.osdm_json.specs.IdBodies.{IsStatusTest, fulfil_of, accept_refund_of, book_of, quote_exchange_of, accept_exchange_of};
 ghost use Rattle.osdm_json.specs.Commands.{Asks};

@@ -8,13 +8,13 @@ use Rattle.history_model.specs.declared.booking.End.{End}
 use Rattle.rail_ids.specs.declared.RowNo.{RowNo}
 use Rattle.booking_rows.specs.Views.{RowSeen}
 use Rattle.catalogue_contents.specs.Contents.{CatalogueView}
-use Rattle.osdm_texts.specs.Times.{time_text}
-use Rattle.osdm_texts.specs.Ids.{booking_id}
-use Rattle.osdm_texts.specs.Statuses.{phase_text}
-use Rattle.osdm_texts.specs.Amounts.{amount_tree}
-use Rattle.osdm_texts.specs.Reservations.{reservations, reservation_tree}
+use Rattle.osdm_parts.specs.Times.{time_text}
+use Rattle.osdm_parts.specs.Ids.{booking_id}
+use Rattle.osdm_parts.specs.Statuses.{phase_text}
+use Rattle.osdm_parts.specs.Amounts.{amount_tree}
+use Rattle.osdm_parts.specs.Reservations.{reservations, reservation_tree}
 use Rattle.osdm_texts.specs.Bookings.{is_settled, end_members, successor_members, booking_tree}
-use Rattle.osdm_texts.specs.Appends.{tokens_of, members_of}
+use Rattle.osdm_parts.specs.Appends.{tokens_of, members_of}
 use Rattle.osdm_texts.specs.EndTokens.{end_tokens}
 
 end_members-tokens : (cat : CatalogueView) (e : Option End) (rest : Members) → members_of (end_members cat e rest) ≡ end_tokens cat e ++ members_of rest

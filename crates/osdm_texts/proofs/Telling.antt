@@ -8,9 +8,9 @@ use Rattle.rail_ids.specs.declared.RowNo.{RowNo}
 use Rattle.booking_rows.specs.Views.{RowSeen}
 use Rattle.booking_rows.specs.declared.swept.Swept.{Swept}
 use Rattle.catalogue_contents.specs.Contents.{CatalogueView}
-use Rattle.osdm_texts.specs.declared.problem.Problem.{Problem}
+use Rattle.osdm_parts.specs.declared.problem.Problem.{Problem}
 use Rattle.osdm_texts.specs.Bookings.{booking_tree}
-use Rattle.osdm_texts.specs.Quotes.{refund_tree, exchange_tree}
+use Rattle.osdm_parts.specs.Quotes.{refund_tree, exchange_tree}
 use Rattle.osdm_texts.specs.Replies.{offers_tree, exchanged_tree, places_tree}
 use Rattle.osdm_texts.specs.Sweeps.{swept_tree}
 use Rattle.osdm_texts.specs.Answers.{offer_list, created, booking, refund_offer, exchange_offer, exchanged, place_list, swept, problem, refused, telling, reply_told}

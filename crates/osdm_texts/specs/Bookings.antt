@@ -10,11 +10,11 @@ use Rattle.history_model.specs.Booking.{successor_rows}
 use Rattle.rail_ids.specs.declared.RowNo.{RowNo}
 use Rattle.booking_rows.specs.Views.{RowSeen, MaySucceed}
 use Rattle.catalogue_contents.specs.Contents.{CatalogueView}
-use Rattle.osdm_texts.specs.Statuses.{phase_text}
-use Rattle.osdm_texts.specs.Times.{time_text}
-use Rattle.osdm_texts.specs.Ids.{booking_id, HasId}
-use Rattle.osdm_texts.specs.Amounts.{amount_tree}
-use Rattle.osdm_texts.specs.Reservations.{reservations, reservation_tree}
+use Rattle.osdm_parts.specs.Statuses.{phase_text}
+use Rattle.osdm_parts.specs.Times.{time_text}
+use Rattle.osdm_parts.specs.Ids.{booking_id, HasId}
+use Rattle.osdm_parts.specs.Amounts.{amount_tree}
+use Rattle.osdm_parts.specs.Reservations.{reservations, reservation_tree}
 use Rattle.booking_rows.specs.Ends.{shown_end}
 use Rattle.booking_rows.specs.declared.views.EndView.{EndView}
 

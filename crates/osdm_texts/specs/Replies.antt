@@ -10,15 +10,15 @@ use Rattle.booking_rows.specs.Views.{RowSeen}
 use Rattle.catalogue_contents.specs.Contents.{CatalogueView}
 use Rattle.osdm_texts.specs.declared.reply.Reply.{Reply}
 use Rattle.osdm_texts.specs.declared.reply.Reply.TheVariants.{OfferList, Booking, RefundOffer, ExchangeOffer, Exchange, PlaceList, Swept, Problem}
-use Rattle.osdm_texts.specs.Ids.{booking_id, HasId}
-use Rattle.osdm_texts.specs.Amounts.{amount_tree}
-use Rattle.osdm_texts.specs.Spots.{run_places}
-use Rattle.osdm_texts.specs.Problems.{problem_tree}
+use Rattle.osdm_parts.specs.Ids.{booking_id, HasId}
+use Rattle.osdm_parts.specs.Amounts.{amount_tree}
+use Rattle.osdm_parts.specs.Spots.{run_places}
+use Rattle.osdm_parts.specs.Problems.{problem_tree}
 use Rattle.osdm_texts.specs.Sweeps.{swept_tree}
-use Rattle.osdm_texts.specs.Offers.{offer_tree, IsWritable}
+use Rattle.osdm_parts.specs.Offers.{offer_tree, IsWritable}
 use Rattle.osdm_texts.specs.Bookings.{booking_tree, HasIds}
-use Rattle.osdm_texts.specs.Quotes.{refund_tree, exchange_tree}
-use Rattle.osdm_texts.specs.Places.{place_list_tree}
+use Rattle.osdm_parts.specs.Quotes.{refund_tree, exchange_tree}
+use Rattle.osdm_parts.specs.Places.{place_list_tree}
 
 abbrev pub offers_tree : CatalogueView → List Offer → Data
 offers_tree cat offers = object (member (codes "offers") (array (items_of (map (offer_tree cat) offers))) no_members)

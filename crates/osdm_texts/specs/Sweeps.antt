@@ -2,7 +2,7 @@
 use Rattle.std.specs.Prelude.{codes}
 use Rattle.serde_json.specs.Data.{Data, object, no_members, member}
 use Rattle.booking_rows.specs.declared.swept.Swept.{Swept}
-use Rattle.osdm_texts.specs.Amounts.{count_tree}
+use Rattle.osdm_parts.specs.Amounts.{count_tree}
 
 abbrev pub swept_tree : Swept → Data
 swept_tree swept =

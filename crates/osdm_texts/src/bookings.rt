@@ -3,20 +3,21 @@ ghost use Rattle.std.specs.Prelude.{◌≡◌, IfSome, OnOk};
 ghost use Rattle.std.specs.Option.{option_map_or};
 ghost use Rattle.serde_json.specs.Data.{no_members};
 ghost use Rattle.booking_rows.specs.Views.{MaySucceed};
-ghost use Rattle.osdm_texts.specs.Ids.{HasId};
+ghost use Rattle.osdm_parts.specs.Ids.{HasId};
 ghost use Rattle.osdm_texts.specs.Bookings.{is_settled as is_settled_of, succeeding, successor_members, HasIds, booking_tree, seen_end};
 ghost use Rattle.osdm_texts.specs.EndTokens.{end_tokens};
 ghost use Rattle.osdm_texts.specs.Seen.{seen_of};
-ghost use Rattle.osdm_texts.specs.Appends.{Appends, tokens_of, members_of};
+ghost use Rattle.osdm_parts.specs.Appends.{Appends, tokens_of, members_of};
 
-use crate::members::{put_amount, put_booking_id, put_flag, put_price, put_text, put_time};
-use crate::problem::phase_text;
-use crate::reservations::put_reservations;
 use booking_rows::{EndView, RowView};
 use catalogue_contents::Catalogue;
 use history_model::phase::{EndKind, Phase};
 use json::Writer;
 use leg_masks::Item;
+use osdm_parts::{
+    phase_text, put_amount, put_booking_id, put_flag, put_price, put_reservations, put_text,
+    put_time,
+};
 use rail_ids::RowNo;
 use rail_time::Moment;
 use std::alloc::AllocError;

@@ -7,23 +7,11 @@
 #![tactic(auto)]
 
 mod bookings;
-mod field;
-mod ids;
-mod members;
-mod offers;
-mod pieces;
-mod places;
-mod problem;
-mod quotes;
 mod reply;
-mod reservations;
-mod small;
-mod spots;
+mod swept;
 mod written;
 
-pub use field::FieldName;
-pub use problem::Problem;
+pub use osdm_parts::{FieldName, Problem, small_text};
 pub use reply::{Reply, reply_text};
-pub use reservations::places_are_shown_once;
-pub use small::{small_text, swept_text};
+pub use swept::swept_text;
 pub use written::{Success, Text, Written, write_prebooked, write_reply, write_swept};

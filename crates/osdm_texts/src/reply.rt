@@ -1,27 +1,25 @@
 ghost use Rattle.std.specs.Prelude.{◌≡◌, [], All, IfOk, OnOk};
 ghost use Rattle.serde_json.specs.Data.{Data};
 ghost use Rattle.serde_json.specs.Written.{compact_text};
-ghost use Rattle.osdm_texts.specs.Offers.{IsWritable};
-ghost use Rattle.osdm_texts.specs.Ids.{HasId};
+ghost use Rattle.osdm_parts.specs.Offers.{IsWritable};
+ghost use Rattle.osdm_parts.specs.Ids.{HasId};
 ghost use Rattle.osdm_texts.specs.Bookings.{HasIds, booking_tree};
 ghost use Rattle.osdm_texts.specs.Seen.{seen_of};
 ghost use Rattle.osdm_texts.specs.Replies.{offers_tree, exchanged_tree, tree_of, CanBeWritten};
-ghost use Rattle.osdm_texts.specs.Problems.{problem_tree};
+ghost use Rattle.osdm_parts.specs.Problems.{problem_tree};
 ghost use Rattle.osdm_texts.specs.Sweeps.{swept_tree};
-ghost use Rattle.osdm_texts.specs.Appends.{Appends, tokens_of};
+ghost use Rattle.osdm_parts.specs.Appends.{Appends, tokens_of};
 
 use crate::bookings::{Shown, put_booking, put_shown};
-use crate::members::{put_amount, put_booking_id};
-use crate::offers::put_offers;
-use crate::places::places_text;
-use crate::problem::Problem;
-use crate::quotes::{put_exchange, put_refund};
-use crate::small::{small_text, swept_text};
-use crate::spots::run_places;
+use crate::swept::swept_text;
 use booking_rows::{RowView, Swept};
 use catalogue_contents::Catalogue;
 use json::Writer;
 use offer_codes::{ExchangeCode, Offer, RefundCode};
+use osdm_parts::{
+    Problem, places_text, put_amount, put_booking_id, put_exchange, put_offers, put_refund,
+    run_places, small_text,
+};
 use rail_ids::{RowNo, RunNo};
 use std::alloc::{AllocError, Global};
 

@@ -7,12 +7,12 @@ ghost use Rattle.history_model.specs.declared.phase.Phase.TheVariants as phase;
 ghost use Rattle.osdm_texts.specs.Replies.{tree_of as written_tree, CanBeWritten};
 ghost use Rattle.osdm_texts.specs.Sweeps.{swept_tree};
 ghost use Rattle.osdm_texts.specs.Answers.{status_told, telling, told_of, created, reply_told};
-ghost use Rattle.osdm_texts.specs.Ids.{HasId};
+ghost use Rattle.osdm_parts.specs.Ids.{HasId};
 ghost use Rattle.osdm_texts.specs.Seen.{made_view};
 
 use crate::bookings::Shown;
 use crate::reply::{Reply, reply_text, shown_text};
-use crate::small::swept_text;
+use crate::swept::swept_text;
 use booking_rows::{Detail, Swept};
 use catalogue_contents::Catalogue;
 use history_model::phase::Phase;

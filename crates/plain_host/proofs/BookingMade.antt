@@ -23,8 +23,8 @@ use Rattle.claim_rule.proofs.Moves.{is_sound}
 use Rattle.booking_rows.specs.Notes.{detail_notes}
 use Rattle.booking_rows.specs.SealedRows.{FitWords}
 use Rattle.hold_core.specs.Places.{gives_back}
-use Rattle.osdm_texts.specs.declared.problem.Problem.{Problem}
-use Rattle.osdm_texts.specs.declared.problem.Problem.TheVariants as problem
+use Rattle.osdm_parts.specs.declared.problem.Problem.{Problem}
+use Rattle.osdm_parts.specs.declared.problem.Problem.TheVariants as problem
 use Rattle.osdm_texts.specs.Answers.{Reply, problem}
 use Rattle.lone_desk.specs.Lone.{IsAlone}
 use Rattle.lone_desk.proofs.Following.{shape_follows}

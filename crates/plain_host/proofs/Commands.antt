@@ -13,7 +13,7 @@ use Rattle.booking_rows.specs.SealedRows.{FitWords}
 use Rattle.booking_rows.proofs.Looked.{row_looked}
 use Rattle.rail_ids.specs.declared.RowNo.{RowNo}
 use Rattle.catalogue_contents.specs.Contents.{CatalogueView}
-use Rattle.osdm_texts.specs.declared.problem.Problem.TheVariants.{NoMemory}
+use Rattle.osdm_parts.specs.declared.problem.Problem.TheVariants.{NoMemory}
 use Rattle.osdm_texts.specs.Answers.{Reply, problem}
 use Rattle.refund_core.specs.Quotes.{FindsBooking}
 use Rattle.service_rules.specs.Ordered as order

@@ -28,7 +28,7 @@ use Rattle.confirm_core.specs.Fulfilling.{Fulfils}
 use Rattle.refund_core.specs.declared.releasing.Released.{Released}
 use Rattle.refund_core.specs.declared.releasing.Released.TheVariants as given
 use Rattle.refund_core.specs.Releasing.{Releases}
-use Rattle.osdm_texts.specs.declared.problem.Problem.TheVariants.{TooLate, WrongState}
+use Rattle.osdm_parts.specs.declared.problem.Problem.TheVariants.{TooLate, WrongState}
 use Rattle.osdm_texts.specs.Answers.{Reply, booking, problem}
 use Rattle.booking_service.specs.Deciding.{in_phase, at_end, confirm_reply, fulfil_reply, release_reply}
 use Rattle.lone_desk.specs.Lone.{entries_of, after_steps}

@@ -14,8 +14,8 @@ use Rattle.offer_codes.specs.Exchanges.{ExchangeView, exchange_view, magnitude, 
 use Rattle.refund_core.specs.Quotes.{phase_named, is_stale}
 use Rattle.exchange_core.specs.Exchanges.{difference_at}
 use Rattle.exchange_core.specs.declared.readying.Readied.TheVariants as readied
-use Rattle.osdm_texts.specs.declared.problem.Problem.{Problem}
-use Rattle.osdm_texts.specs.declared.problem.Problem.TheVariants.{WrongState, QuoteWrong, NoMemory}
+use Rattle.osdm_parts.specs.declared.problem.Problem.{Problem}
+use Rattle.osdm_parts.specs.declared.problem.Problem.TheVariants.{WrongState, QuoteWrong, NoMemory}
 use Rattle.osdm_texts.specs.Answers.{Reply, problem}
 use Rattle.trade_service.specs.Exchanges.{AnswersAcceptedExchange}
 use Rattle.service_rules.specs.Ordered as order

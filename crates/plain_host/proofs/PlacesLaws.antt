@@ -22,7 +22,7 @@ use Rattle.offer_prices.specs.Runs.{is_of_runs}
 use Rattle.offer_engine.specs.Codes.{goes, is_offered}
 use Rattle.offer_engine.specs.declared.wish.OfferWish.{OfferWish}
 use Rattle.offer_engine.specs.Offers.{raised}
-use Rattle.osdm_texts.specs.declared.problem.Problem.TheVariants.{NoMemory}
+use Rattle.osdm_parts.specs.declared.problem.Problem.TheVariants.{NoMemory}
 use Rattle.osdm_texts.specs.Answers.{Reply, offer_list, place_list, problem}
 use Rattle.reservation_service.specs.declared.booking.Reservation.{Reservation}
 use Rattle.reservation_service.specs.Reserving.{reserved}

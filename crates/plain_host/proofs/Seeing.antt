@@ -16,7 +16,7 @@ use Rattle.booking_rows.specs.SealedRows.{FitWords}
 use Rattle.booking_rows.proofs.Looked.{row_looked}
 use Rattle.catalogue_contents.specs.Contents.{CatalogueView}
 use Rattle.refund_core.specs.Quotes.{SeesOwn, SeesNone}
-use Rattle.osdm_texts.specs.declared.problem.Problem.TheVariants.{UnknownBooking}
+use Rattle.osdm_parts.specs.declared.problem.Problem.TheVariants.{UnknownBooking}
 use Rattle.osdm_texts.specs.Answers.{Reply, problem}
 use Rattle.lone_desk.specs.Lone.{entries_of}
 use Rattle.lone_desk.proofs.Following.{shape_follows}

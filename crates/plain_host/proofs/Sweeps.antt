@@ -14,7 +14,7 @@ use Rattle.claim_rule.proofs.Moves.{is_sound}
 use Rattle.booking_rows.specs.declared.swept.Swept.{Swept}
 use Rattle.expiry_sweeper.specs.AllRows.{sweeps_steps}
 use Rattle.catalogue_contents.specs.Contents.{CatalogueView}
-use Rattle.osdm_texts.specs.declared.problem.Problem.{Problem}
+use Rattle.osdm_parts.specs.declared.problem.Problem.{Problem}
 use Rattle.osdm_texts.specs.Answers.{swept}
 use Rattle.booking_service.specs.Sweeping.{SweepsRows}
 use Rattle.service_rules.specs.Ordered as order

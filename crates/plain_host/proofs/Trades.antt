@@ -36,7 +36,7 @@ use Rattle.refund_core.specs.declared.refunding.Refunded.{Refunded}
 use Rattle.refund_core.specs.declared.refunding.Refunded.TheVariants as came
 use Rattle.exchange_core.specs.Exchanges.{difference_at}
 use Rattle.exchange_core.specs.declared.quoting.QuotedExchange.TheVariants as offered
-use Rattle.osdm_texts.specs.declared.problem.Problem.TheVariants.{WrongState, QuoteWrong}
+use Rattle.osdm_parts.specs.declared.problem.Problem.TheVariants.{WrongState, QuoteWrong}
 use Rattle.osdm_texts.specs.Answers.{Reply, booking, refund_offer, exchange_offer, problem}
 use Rattle.booking_service.specs.Deciding.{at_end}
 use Rattle.trade_service.specs.Refunds.{RefundsFound, refund_reply}

@@ -14,7 +14,7 @@ use Rattle.tariff.specs.Prices.{FareAmounts}
 use Rattle.train_runs.specs.declared.segment.Segment.{Segment}
 use Rattle.offer_codes.specs.Offers.{OfferView}
 use Rattle.catalogue_contents.specs.Contents.{CatalogueView}
-use Rattle.osdm_texts.specs.declared.problem.Problem.TheVariants.{NoPlace, RowsFull, TooLate, WrongState, UnknownBooking}
+use Rattle.osdm_parts.specs.declared.problem.Problem.TheVariants.{NoPlace, RowsFull, TooLate, WrongState, UnknownBooking}
 use Rattle.osdm_texts.specs.Answers.{created, booking, place_list, swept, problem}
 use Rattle.osdm_json.specs.declared.command.Command.TheVariants as command
 use Rattle.plain_host.specs.Plain.{Plain, Outcome, chosen}

@@ -22,10 +22,10 @@ use Rattle.trip_builder.specs.Trips.{trips_of}
 use Rattle.offer_engine.specs.declared.wish.OfferWish.{OfferWish}
 use Rattle.offer_prices.specs.Prices.{offer_price}
 use Rattle.offer_engine.specs.Offers.{raised, code_for, wanted_places}
-use Rattle.osdm_texts.specs.declared.problem.Problem.{Problem}
+use Rattle.osdm_parts.specs.declared.problem.Problem.{Problem}
 use Rattle.refund_core.specs.Quotes.{phase_named, refund_at}
 use Rattle.exchange_core.specs.Exchanges.{difference_at}
-use Rattle.osdm_texts.specs.declared.problem.Problem.TheVariants.{UnknownBooking, RowsFull, NoPlace, TooLate, WrongState, QuoteWrong}
+use Rattle.osdm_parts.specs.declared.problem.Problem.TheVariants.{UnknownBooking, RowsFull, NoPlace, TooLate, WrongState, QuoteWrong}
 use Rattle.osdm_texts.specs.Answers.{offer_list, created, booking, refund_offer, exchange_offer, exchanged, place_list, swept, problem}
 use Rattle.osdm_json.specs.declared.command.Command.{Command}
 use Rattle.booking_service.specs.Deciding.{in_phase, at_end}

@@ -4,8 +4,8 @@ use Rattle.history_model.specs.History.{IsLegal}
 use Rattle.claim_rule.specs.Rule.{DeskView, state_seen}
 use Rattle.booking_rows.specs.SealedRows.{FitWords}
 use Rattle.catalogue_contents.specs.Contents.{CatalogueView, legs_in}
-use Rattle.osdm_texts.specs.declared.problem.Problem.{Problem}
-use Rattle.osdm_texts.specs.declared.problem.Problem.TheVariants.{NoMemory}
+use Rattle.osdm_parts.specs.declared.problem.Problem.{Problem}
+use Rattle.osdm_parts.specs.declared.problem.Problem.TheVariants.{NoMemory}
 use Rattle.osdm_texts.specs.Answers.{Reply, problem}
 use Rattle.service_rules.specs.Ordered as order
 use Rattle.service_rules.specs.Answering.{AnswersBy}

@@ -4,7 +4,7 @@ ghost use Rattle.rail_ids.specs.declared.RowNo.{RowNo};
 ghost use Rattle.offer_codes.specs.declared.code.OfferCode.{OfferCode};
 ghost use Rattle.offer_codes.specs.declared.code.RefundCode.{RefundCode};
 ghost use Rattle.catalogue_contents.specs.Contents.{CatalogueView};
-ghost use Rattle.osdm_texts.specs.declared.problem.Problem.{Problem};
+ghost use Rattle.osdm_parts.specs.declared.problem.Problem.{Problem};
 ghost use Rattle.osdm_json.specs.declared.command.Command.TheVariants.{AcceptRefund};
 ghost use Rattle.service_rules.specs.Ordered.{show, confirm, fulfil, release, sweep, quote_refund, quote_exchange};
 ghost use Rattle.service_rules.specs.Checks.{ordered};

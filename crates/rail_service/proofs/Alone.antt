@@ -8,7 +8,7 @@ use Rattle.session_loop.specs.Session.{IsAnswered, IsCutShort, IsEnd}
 use Rattle.session_loop.proofs.Views.{end_seen, answered_seen, cut_seen}
 use Rattle.claim_rule.specs.Rule.{DeskView}
 use Rattle.catalogue_contents.specs.Contents.{CatalogueView}
-use Rattle.osdm_texts.specs.declared.problem.Problem.{Problem}
+use Rattle.osdm_parts.specs.declared.problem.Problem.{Problem}
 use Rattle.osdm_texts.specs.Answers.{Reply}
 use Rattle.osdm_json.specs.declared.command.Command.{Command}
 use Rattle.osdm_json.specs.declared.route.Route.{Route}

@@ -9,7 +9,7 @@ use Rattle.rail_io.specs.declared.clock.Reach.TheVariants.{Changes}
 use Rattle.http_wire.specs.Requests.{RequestText}
 use Rattle.catalogue_contents.specs.Contents.{CatalogueView}
 use Rattle.rail_ids.specs.declared.RetailerNo.{RetailerNo}
-use Rattle.osdm_texts.specs.declared.problem.Problem.{Problem}
+use Rattle.osdm_parts.specs.declared.problem.Problem.{Problem}
 use Rattle.osdm_texts.specs.Answers.{Told}
 use Rattle.osdm_json.specs.declared.command.Command.{Command}
 use Rattle.service_rules.specs.Checks.{ordered}

@@ -3,7 +3,7 @@ use Rattle.std.proofs.Common.{◌≡◌, ℕ, Err, refl, subst}
 use Rattle.catalogue_contents.specs.Contents.{CatalogueView}
 use Rattle.claim_rule.specs.Rule.{DeskView}
 use Rattle.claim_rule.specs.Out.{MakesEmpty}
-use Rattle.osdm_texts.specs.declared.problem.Problem.{Problem}
+use Rattle.osdm_parts.specs.declared.problem.Problem.{Problem}
 use Rattle.osdm_texts.specs.Answers.{Reply, problem, Told, refused as refused_told, reply_told}
 use Rattle.osdm_texts.proofs.Telling.{of_problem}
 use Rattle.booking_service.specs.Deciding.{Replying, Answered}

@@ -27,7 +27,7 @@ use Rattle.refund_core.specs.Refunding.{QuotesRefund}
 use Rattle.exchange_core.specs.declared.quoting.QuotedExchange.{QuotedExchange}
 use Rattle.exchange_core.specs.declared.quoting.QuotedExchange.TheVariants as quoted_exchange
 use Rattle.exchange_core.specs.Exchanges.{QuotesExchange}
-use Rattle.osdm_texts.specs.declared.problem.Problem.{Problem}
+use Rattle.osdm_parts.specs.declared.problem.Problem.{Problem}
 use Rattle.osdm_texts.specs.Answers.{Reply}
 use Rattle.osdm_json.specs.declared.command.Command.{Command}
 use Rattle.osdm_json.specs.declared.command.Command.TheVariants as command

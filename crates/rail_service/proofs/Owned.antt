@@ -18,7 +18,7 @@ use Rattle.claim_rule.proofs.Shapes.{shape_then, shape_none}
 use Rattle.rail_ids.specs.declared.RowNo.{RowNo}
 use Rattle.catalogue_contents.specs.Contents.{CatalogueView}
 use Rattle.booking_rows.specs.Views.{RowSeen}
-use Rattle.osdm_texts.specs.declared.problem.Problem.{Problem}
+use Rattle.osdm_parts.specs.declared.problem.Problem.{Problem}
 use Rattle.osdm_texts.specs.Answers.{Reply}
 use Rattle.booking_service.specs.Deciding.{Replying, OnBooking, shows, ConfirmsFound, FulfilsFound, ReleasesFound}
 use Rattle.reservation_service.specs.declared.holding.Placing.{Placing}

@@ -6,7 +6,7 @@ use Rattle.claim_rule.specs.Desks.{IsOf}
 use Rattle.claim_rule.proofs.Shapes.{adds_length}
 use Rattle.expiry_sweeper.specs.Complete.{LeavesNoneOverdue}
 use Rattle.catalogue_contents.specs.Contents.{CatalogueView}
-use Rattle.osdm_texts.specs.declared.problem.Problem.{Problem}
+use Rattle.osdm_parts.specs.declared.problem.Problem.{Problem}
 use Rattle.osdm_texts.specs.Answers.{Reply, Told}
 use Rattle.service_rules.specs.Ordered as order
 use Rattle.service_rules.specs.Answering.{AnswersBy, BooksBy}

@@ -35,8 +35,8 @@ use Rattle.offer_codes.specs.Exchanges.{ExchangeView, exchange_view}
 use Rattle.offer_engine.specs.declared.wish.OfferWish.{OfferWish}
 use Rattle.http_wire.specs.Requests.{RequestText}
 use Rattle.catalogue_contents.specs.Contents.{CatalogueView}
-use Rattle.osdm_texts.specs.declared.problem.Problem.{Problem}
-use Rattle.osdm_texts.specs.declared.problem.Problem.TheVariants.{UnknownBooking, NoMemory, RowsFull, WrongState, OfferTooOld, QuoteWrong}
+use Rattle.osdm_parts.specs.declared.problem.Problem.{Problem}
+use Rattle.osdm_parts.specs.declared.problem.Problem.TheVariants.{UnknownBooking, NoMemory, RowsFull, WrongState, OfferTooOld, QuoteWrong}
 use Rattle.osdm_texts.specs.Answers.{Reply, problem}
 use Rattle.osdm_json.specs.declared.command.Command.{Command}
 use Rattle.refund_core.specs.Quotes.{SeesOwn, FindsBooking}

@@ -3,7 +3,7 @@ use Rattle.std.specs.Prelude.{ℕ, Bool, true, false, List, ◌++◌, length}
 use Rattle.serde_json.specs.Written.{compact_text}
 use Rattle.http_wire.specs.Answers.{head_text}
 use Rattle.catalogue_contents.specs.Contents.{CatalogueView}
-use Rattle.osdm_texts.specs.Problems.{problem_line, problem_tree}
+use Rattle.osdm_parts.specs.Problems.{problem_line, problem_tree}
 use Rattle.osdm_texts.specs.Answers.{Reply, status_of, tree_of, is_problem, Told, refused, told}
 
 -- a head with its body after it

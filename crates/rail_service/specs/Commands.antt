@@ -3,7 +3,7 @@ use Rattle.std.specs.Prelude.{◌≡◌, ℕ, Result}
 use mathlib.Core.List.{IsPrefix}
 use Rattle.catalogue_contents.specs.Contents.{CatalogueView}
 use Rattle.claim_rule.specs.Rule.{DeskView}
-use Rattle.osdm_texts.specs.declared.problem.Problem.{Problem}
+use Rattle.osdm_parts.specs.declared.problem.Problem.{Problem}
 use Rattle.osdm_texts.specs.Answers.{Reply, Told, reply_told}
 use Rattle.service_rules.specs.Ordered as order
 use Rattle.service_rules.specs.Answering.{AnswersBy, BooksBy}

@@ -7,8 +7,8 @@ use Rattle.session_loop.specs.declared.end.ConnEnd.{ConnEnd}
 use Rattle.session_loop.specs.declared.end.ConnEnd.TheVariants.{NoMemory}
 use Rattle.session_loop.specs.Session.{Answering, Refusing, IsEnd}
 use Rattle.catalogue_contents.specs.Contents.{CatalogueView}
-use Rattle.osdm_texts.specs.declared.problem.Problem.{Problem}
-use Rattle.osdm_texts.specs.declared.problem.Problem.TheVariants as refused
+use Rattle.osdm_parts.specs.declared.problem.Problem.{Problem}
+use Rattle.osdm_parts.specs.declared.problem.Problem.TheVariants as refused
 use Rattle.osdm_texts.specs.Answers.{Reply, problem}
 use Rattle.rail_service.specs.Bytes.{reply_bytes}
 use Rattle.osdm_json.specs.declared.command.Command.{Command}

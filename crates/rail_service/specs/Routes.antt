@@ -1,7 +1,7 @@
 -- The route of a method and a path.
 use Rattle.std.specs.Prelude.{◌≡◌, ◌⊎◌, ℕ, List, Some, None, Result, Ok, Err, codes}
-use Rattle.osdm_texts.specs.declared.problem.Problem.{Problem}
-use Rattle.osdm_texts.specs.declared.problem.Problem.TheVariants.{NoRoute, NoMethod}
+use Rattle.osdm_parts.specs.declared.problem.Problem.{Problem}
+use Rattle.osdm_parts.specs.declared.problem.Problem.TheVariants.{NoRoute, NoMethod}
 use Rattle.osdm_json.specs.declared.route.Route.{Route}
 use Rattle.osdm_json.specs.declared.route.Route.TheVariants as route
 use Rattle.rail_service.specs.declared.resource.Resource.{Resource}

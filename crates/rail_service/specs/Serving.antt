@@ -6,8 +6,8 @@ use Rattle.rail_ids.specs.declared.RetailerNo.{RetailerNo}
 use Rattle.catalogue_contents.specs.Retailers.{retailer_with}
 use Rattle.catalogue_contents.specs.Contents.{CatalogueView}
 use Rattle.claim_rule.specs.Rule.{DeskView}
-use Rattle.osdm_texts.specs.declared.problem.Problem.{Problem}
-use Rattle.osdm_texts.specs.declared.problem.Problem.TheVariants.{NoRetailer, OtherRetailer, NoMemory}
+use Rattle.osdm_parts.specs.declared.problem.Problem.{Problem}
+use Rattle.osdm_parts.specs.declared.problem.Problem.TheVariants.{NoRetailer, OtherRetailer, NoMemory}
 use Rattle.osdm_texts.specs.Answers.{Reply, problem}
 use Rattle.osdm_json.specs.declared.route.Route.{Route}
 use Rattle.osdm_json.specs.declared.command.Command.{Command}

@@ -5,7 +5,7 @@ use Rattle.history_model.specs.declared.entry.Step.TheVariants.{Seal, Turn, Clos
 use Rattle.history_model.specs.Work.{NoStep}
 use Rattle.claim_rule.specs.Rule.{DeskView}
 use Rattle.claim_rule.specs.Desks.{AddsSteps}
-use Rattle.osdm_texts.specs.declared.problem.Problem.TheVariants.{NoMemory}
+use Rattle.osdm_parts.specs.declared.problem.Problem.TheVariants.{NoMemory}
 use Rattle.osdm_texts.specs.Answers.{Reply, problem}
 
 -- a step that changes what a sealed booking is: it is sealed, turned or closed

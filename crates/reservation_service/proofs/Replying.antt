@@ -23,8 +23,8 @@ use Rattle.claim_rule.specs.Out.{MakesEmpty, IsSealedAs, SealsItems, IsIdle}
 use Rattle.shop.specs.Homes.{StaysHome}
 use Rattle.offer_codes.specs.Offers.{OfferView}
 use Rattle.catalogue_contents.specs.Contents.{CatalogueView}
-use Rattle.osdm_texts.specs.declared.problem.Problem.{Problem}
-use Rattle.osdm_texts.specs.declared.problem.Problem.TheVariants as reason
+use Rattle.osdm_parts.specs.declared.problem.Problem.{Problem}
+use Rattle.osdm_parts.specs.declared.problem.Problem.TheVariants as reason
 use Rattle.osdm_texts.specs.Answers.{Reply, created, problem, Told, refused, reply_told}
 use Rattle.osdm_texts.specs.Seen.{made_view}
 use Rattle.osdm_texts.proofs.Telling.{of_problem}

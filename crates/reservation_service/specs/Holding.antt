@@ -21,8 +21,8 @@ use Rattle.party_places.specs.declared.party.PartyAdded.{PartyAdded}
 use Rattle.party_places.specs.declared.party.PartyAdded.TheVariants as party
 use Rattle.party_places.specs.Parties.{Party, SeatsParty}
 use Rattle.party_places.specs.Causes.{SpoilsAll}
-use Rattle.osdm_texts.specs.declared.problem.Problem.{Problem}
-use Rattle.osdm_texts.specs.declared.problem.Problem.TheVariants as problem
+use Rattle.osdm_parts.specs.declared.problem.Problem.{Problem}
+use Rattle.osdm_parts.specs.declared.problem.Problem.TheVariants as problem
 use Rattle.reservation_service.specs.declared.holding.Placing.{Placing}
 use Rattle.reservation_service.specs.declared.holding.Placing.TheVariants.{Whole, Short, Contended, NoMemory}
 

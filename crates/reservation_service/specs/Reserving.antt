@@ -15,8 +15,8 @@ use Rattle.claim_rule.specs.Desks.{AddsSteps}
 use Rattle.claim_rule.specs.Out.{MakesEmpty, SealsItems}
 use Rattle.booking_rows.specs.declared.notes.Detail.{Detail}
 use Rattle.booking_rows.specs.Notes.{detail_notes}
-use Rattle.osdm_texts.specs.declared.problem.Problem.{Problem}
-use Rattle.osdm_texts.specs.declared.problem.Problem.TheVariants.{RowsFull, NoMemory}
+use Rattle.osdm_parts.specs.declared.problem.Problem.{Problem}
+use Rattle.osdm_parts.specs.declared.problem.Problem.TheVariants.{RowsFull, NoMemory}
 use Rattle.osdm_texts.specs.Answers.{Reply, created, exchanged, problem, Told, reply_told}
 use Rattle.osdm_texts.specs.Seen.{made_view}
 use Rattle.reservation_service.specs.declared.holding.Placing.{Placing}

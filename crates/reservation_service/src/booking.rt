@@ -9,7 +9,7 @@ ghost use Rattle.leg_masks.specs.Interval.{PlacedSpan};
 ghost use Rattle.claim_rule.specs.Out.{HasNotedItems, IsToBeSealed};
 ghost use Rattle.shop.specs.Homes.{IsAtHome, StaysHome};
 ghost use Rattle.osdm_texts.specs.Answers.{created, reply_told, told_of};
-ghost use Rattle.osdm_texts.specs.Ids.{HasId};
+ghost use Rattle.osdm_parts.specs.Ids.{HasId};
 ghost use Rattle.osdm_texts.specs.Seen.{made_view};
 ghost use Rattle.reservation_service.specs.Outs.{IsOutAt, StaysOut};
 ghost use Rattle.reservation_service.specs.Reserving.{MakesReady, FallsShort, AnswersReserving, reserved};

@@ -9,8 +9,8 @@ use Rattle.offer_engine.specs.Offers.{MakesOffers, BeginsMaking}
 use Rattle.availability.specs.Looks.{LooksAt}
 use Rattle.claim_rule.specs.Rule.{DeskView}
 use Rattle.claim_rule.specs.Calls.{AddsStepsBy}
-use Rattle.osdm_texts.specs.declared.problem.Problem.{Problem}
-use Rattle.osdm_texts.specs.declared.problem.Problem.TheVariants.{NoMemory}
+use Rattle.osdm_parts.specs.declared.problem.Problem.{Problem}
+use Rattle.osdm_parts.specs.declared.problem.Problem.TheVariants.{NoMemory}
 use Rattle.osdm_texts.specs.declared.written.Written.{Written}
 use Rattle.osdm_texts.specs.Answers.{Reply, offer_list, place_list, problem, Told, refused, reply_told, told_of, Tells}
 use Rattle.osdm_texts.proofs.Telling.{of_problem}

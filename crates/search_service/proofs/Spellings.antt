@@ -19,7 +19,7 @@ use Rattle.trip_builder.specs.Trips.{is_trip, longer, all_lists, trips_of, most_
 use Rattle.history_model.specs.declared.entry.Step.{Step}
 use Rattle.offer_engine.specs.declared.wish.OfferWish.{OfferWish}
 use Rattle.offer_engine.specs.Offers.{code_for, CountsSegments, OffersFor}
-use Rattle.osdm_texts.specs.Offers.{IsWritable}
+use Rattle.osdm_parts.specs.Offers.{IsWritable}
 use Rattle.search_service.proofs.Every.{every_append, every_flat, every_filter, every_take, every_fold, every_passes}
 
 -- the segment is in the ranges of codes

@@ -1,8 +1,8 @@
 //! Searching for offers.
 ghost use Rattle.std.specs.Prelude.{◌≡◌, ◌≤◌, All, Ok, IfOk, IfErr, true};
 ghost use Rattle.offer_codes.specs.Offers.{is_party};
-ghost use Rattle.osdm_texts.specs.Offers.{IsWritable};
-ghost use Rattle.osdm_texts.specs.declared.problem.Problem.TheVariants.{NoMemory};
+ghost use Rattle.osdm_parts.specs.Offers.{IsWritable};
+ghost use Rattle.osdm_parts.specs.declared.problem.Problem.TheVariants.{NoMemory};
 ghost use Rattle.osdm_texts.specs.Answers.{Reply as Replied, offer_list, reply_told, told_of, Tells};
 ghost use Rattle.shop.specs.Homes.{IsAtHome, StaysHome};
 ghost use Rattle.search_service.specs.Searching.{SearchesOffers};

@@ -1,7 +1,7 @@
 //! The places of a run, and which of them are free.
 ghost use Rattle.std.specs.Prelude.{◌≡◌, length, Ok, IfOk, IfErr};
-ghost use Rattle.osdm_texts.specs.Spots.{run_places};
-ghost use Rattle.osdm_texts.specs.declared.problem.Problem.TheVariants.{NoMemory};
+ghost use Rattle.osdm_parts.specs.Spots.{run_places};
+ghost use Rattle.osdm_parts.specs.declared.problem.Problem.TheVariants.{NoMemory};
 ghost use Rattle.osdm_texts.specs.Answers.{Reply as Replied, place_list, reply_told, told_of, Tells};
 ghost use Rattle.shop.specs.Homes.{IsAtHome, StaysHome};
 ghost use Rattle.search_service.specs.Searching.{ListsPlaces};

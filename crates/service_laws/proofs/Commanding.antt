@@ -27,7 +27,7 @@ use Rattle.exchange_core.specs.declared.quoting.QuotedExchange.{QuotedExchange}
 use Rattle.exchange_core.specs.declared.quoting.QuotedExchange.TheVariants as quoted_exchange
 use Rattle.exchange_core.specs.declared.readying.Readied.{Readied}
 use Rattle.exchange_core.specs.declared.readying.Readied.TheVariants as readied
-use Rattle.osdm_texts.specs.declared.problem.Problem.{Problem}
+use Rattle.osdm_parts.specs.declared.problem.Problem.{Problem}
 use Rattle.osdm_texts.specs.Answers.{Reply, refund_offer, exchange_offer, problem}
 use Rattle.trade_service.specs.Exchanges.{IsExchangeQuote, IsUnready}
 use Rattle.trade_service.specs.Refunds.{IsQuoteReply, refund_reply}

@@ -29,7 +29,7 @@ use Rattle.refund_core.specs.declared.refunding.Refunded.TheVariants as refunded
 use Rattle.refund_core.specs.declared.quoting.Quoted.TheVariants as quoted
 use Rattle.exchange_core.specs.declared.quoting.QuotedExchange.TheVariants as exchange_quoted
 use Rattle.osdm_texts.specs.Answers.{problem}
-use Rattle.osdm_texts.specs.declared.problem.Problem.TheVariants.{WrongState}
+use Rattle.osdm_parts.specs.declared.problem.Problem.TheVariants.{WrongState}
 use Rattle.service_rules.specs.Ordered as order
 use Rattle.service_laws.specs.Begun.{BeginsAfter}
 use Rattle.service_laws.specs.Told.{FindsFurther, RefusalsShowFurther, StandsFrom}

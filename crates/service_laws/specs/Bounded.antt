@@ -15,7 +15,7 @@ use Rattle.trip_builder.specs.Trips.{trips_of}
 use Rattle.offer_engine.specs.Offers.{raised, wanted_places}
 use Rattle.offer_engine.specs.declared.wish.OfferWish.{OfferWish}
 use Rattle.osdm_texts.specs.Answers.{Reply}
-use Rattle.osdm_texts.specs.declared.problem.Problem.{Problem}
+use Rattle.osdm_parts.specs.declared.problem.Problem.{Problem}
 use Rattle.search_service.specs.Searching.{numbers_on}
 use Rattle.service_rules.specs.Ordered as order
 use Rattle.service_rules.specs.Performing.{Performs}

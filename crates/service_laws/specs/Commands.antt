@@ -17,8 +17,8 @@ use Rattle.refund_core.specs.Quotes.{phase_named}
 use Rattle.exchange_core.specs.Exchanges.{Readies}
 use Rattle.exchange_core.specs.declared.readying.Readied.TheVariants as readied
 use Rattle.osdm_texts.specs.Answers.{Reply, booking, refund_offer, exchange_offer, problem}
-use Rattle.osdm_texts.specs.declared.problem.Problem.{Problem}
-use Rattle.osdm_texts.specs.declared.problem.Problem.TheVariants.{UnknownBooking, WrongState, NoMemory}
+use Rattle.osdm_parts.specs.declared.problem.Problem.{Problem}
+use Rattle.osdm_parts.specs.declared.problem.Problem.TheVariants.{UnknownBooking, WrongState, NoMemory}
 use Rattle.booking_service.specs.Deciding.{Replying, at_end}
 use Rattle.claim_rule.specs.Calls.{AddsStepsBy}
 use Rattle.trade_service.specs.Exchanges.{CarriesOut, ready_of}

@@ -17,7 +17,7 @@ use Rattle.refund_core.specs.Refunding.{IsRefunded}
 use Rattle.refund_core.specs.Releasing.{IsReleased}
 use Rattle.catalogue_contents.specs.Contents.{CatalogueView}
 use Rattle.osdm_texts.specs.Answers.{Reply, booking, created, exchanged, problem}
-use Rattle.osdm_texts.specs.declared.problem.Problem.TheVariants.{UnknownBooking, NoMemory, WrongState}
+use Rattle.osdm_parts.specs.declared.problem.Problem.TheVariants.{UnknownBooking, NoMemory, WrongState}
 use Rattle.offer_codes.specs.declared.code.OfferCode.{OfferCode}
 use Rattle.offer_codes.specs.declared.code.RefundCode.{RefundCode}
 use Rattle.offer_codes.specs.Exchanges.{ExchangeView}

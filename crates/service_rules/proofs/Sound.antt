@@ -7,8 +7,8 @@ use Rattle.offer_codes.specs.declared.code.OfferCode.{OfferCode}
 use Rattle.offer_codes.specs.Offers.{offer_view, is_offer, valid_seconds}
 use Rattle.catalogue_contents.specs.Contents.{CatalogueView}
 use Rattle.offer_engine.specs.Codes.{is_offered}
-use Rattle.osdm_texts.specs.declared.problem.Problem.{Problem}
-use Rattle.osdm_texts.specs.declared.problem.Problem.TheVariants.{UnknownOffer, OfferTooOld}
+use Rattle.osdm_parts.specs.declared.problem.Problem.{Problem}
+use Rattle.osdm_parts.specs.declared.problem.Problem.TheVariants.{UnknownOffer, OfferTooOld}
 use Rattle.osdm_json.specs.declared.command.Command.{Command}
 use Rattle.osdm_json.specs.declared.command.Command.TheVariants as command
 use Rattle.osdm_json.specs.Readable.{IsReadable}

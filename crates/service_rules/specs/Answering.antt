@@ -4,7 +4,7 @@ use Rattle.offer_codes.specs.Offers.{offer_view}
 use Rattle.catalogue_contents.specs.Contents.{CatalogueView}
 use Rattle.claim_rule.specs.Rule.{DeskView}
 use Rattle.claim_rule.specs.Out.{MakesEmpty}
-use Rattle.osdm_texts.specs.declared.problem.Problem.{Problem}
+use Rattle.osdm_parts.specs.declared.problem.Problem.{Problem}
 use Rattle.osdm_texts.specs.Answers.{Reply, problem}
 use Rattle.osdm_json.specs.declared.command.Command.{Command}
 use Rattle.reservation_service.specs.Reserving.{reserved, HasAllOrNone}

@@ -5,7 +5,7 @@ use Rattle.offer_codes.specs.Refunds.{is_refund}
 use Rattle.offer_codes.specs.Exchanges.{exchange_view, is_exchange}
 use Rattle.catalogue_contents.specs.Contents.{CatalogueView}
 use Rattle.offer_engine.specs.Codes.{is_offered}
-use Rattle.osdm_texts.specs.declared.problem.Problem.{Problem}
+use Rattle.osdm_parts.specs.declared.problem.Problem.{Problem}
 use Rattle.osdm_json.specs.Readable.{IsWithinRun}
 use Rattle.service_rules.specs.declared.order.Order.{Order}
 use Rattle.service_rules.specs.declared.order.Order.TheVariants as rust

@@ -25,8 +25,8 @@ use Rattle.exchange_core.specs.declared.readying.Readied.{Readied}
 use Rattle.exchange_core.specs.declared.readying.Readied.TheVariants as readied
 use Rattle.exchange_core.specs.declared.accepting.Exchanged.TheVariants as accepted
 use Rattle.exchange_core.proofs.Kept.{ready_on}
-use Rattle.osdm_texts.specs.declared.problem.Problem.{Problem}
-use Rattle.osdm_texts.specs.declared.problem.Problem.TheVariants.{UnknownBooking, WrongState, RowsFull, NoMemory}
+use Rattle.osdm_parts.specs.declared.problem.Problem.{Problem}
+use Rattle.osdm_parts.specs.declared.problem.Problem.TheVariants.{UnknownBooking, WrongState, RowsFull, NoMemory}
 use Rattle.osdm_texts.specs.Answers.{Reply, offer_list, created, booking, refund_offer, exchange_offer, exchanged, place_list, swept, problem, Told, refused as refused_told, reply_told, told_of, Tells}
 use Rattle.osdm_texts.specs.declared.written.Written.{Written}
 use Rattle.osdm_texts.proofs.Telling.{of_problem}

@@ -20,7 +20,7 @@ use Rattle.booking_rows.specs.Views.{RowSeen, MaySucceed}
 use Rattle.booking_rows.specs.SealedRows.{IsSealedRow, IsAfter}
 use Rattle.booking_rows.proofs.ViewLemmas.{at_key, generation_of_seen, generation_of_hold}
 use Rattle.exchange_core.specs.Ready.{ReadyView, IsReadyFor}
-use Rattle.osdm_texts.specs.Ids.{HasId}
+use Rattle.osdm_parts.specs.Ids.{HasId}
 use Rattle.osdm_texts.specs.Bookings.{HasIds}
 use Rattle.booking_service.specs.Deciding.{at_end}
 use Rattle.osdm_texts.specs.Seen.{made_view}

@@ -11,8 +11,8 @@ use Rattle.refund_core.specs.declared.quoting.Quoted.TheVariants as quoted
 use Rattle.refund_core.specs.declared.refunding.Refunded.{Refunded}
 use Rattle.refund_core.specs.declared.refunding.Refunded.TheVariants as refunded
 use Rattle.refund_core.specs.Refunding.{QuotesRefund, AcceptsRefund, IfRefunded, IsRefunded}
-use Rattle.osdm_texts.specs.declared.problem.Problem.{Problem}
-use Rattle.osdm_texts.specs.declared.problem.Problem.TheVariants.{UnknownBooking, WrongState, NoMemory}
+use Rattle.osdm_parts.specs.declared.problem.Problem.{Problem}
+use Rattle.osdm_parts.specs.declared.problem.Problem.TheVariants.{UnknownBooking, WrongState, NoMemory}
 use Rattle.osdm_texts.specs.Answers.{refund_offer, problem, Told, refused as refused_told, reply_told, told_of, Tells}
 use Rattle.osdm_texts.specs.declared.written.Written.{Written}
 use Rattle.osdm_texts.proofs.Telling.{of_problem}

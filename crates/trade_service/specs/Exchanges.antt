@@ -22,8 +22,8 @@ use Rattle.exchange_core.specs.declared.quoting.QuotedExchange.TheVariants as qu
 use Rattle.exchange_core.specs.declared.readying.Readied.{Readied}
 use Rattle.exchange_core.specs.declared.readying.Readied.TheVariants as readied
 use Rattle.exchange_core.specs.declared.accepting.Exchanged.TheVariants as accepted
-use Rattle.osdm_texts.specs.declared.problem.Problem.{Problem}
-use Rattle.osdm_texts.specs.declared.problem.Problem.TheVariants.{UnknownBooking, WrongState, OfferTooOld, QuoteWrong, NoMemory}
+use Rattle.osdm_parts.specs.declared.problem.Problem.{Problem}
+use Rattle.osdm_parts.specs.declared.problem.Problem.TheVariants.{UnknownBooking, WrongState, OfferTooOld, QuoteWrong, NoMemory}
 use Rattle.osdm_texts.specs.Answers.{Reply, exchange_offer, exchanged, problem, Told, reply_told}
 use Rattle.booking_service.specs.Deciding.{Replying}
 use Rattle.reservation_service.specs.Holding.{HoldsPlaces, GivesUp}

@@ -13,8 +13,8 @@ use Rattle.refund_core.specs.declared.quoting.Quoted.TheVariants as quoted
 use Rattle.refund_core.specs.declared.refunding.Refunded.{Refunded}
 use Rattle.refund_core.specs.declared.refunding.Refunded.TheVariants as refunded
 use Rattle.refund_core.specs.Refunding.{QuotesRefund, AcceptsRefund}
-use Rattle.osdm_texts.specs.declared.problem.Problem.{Problem}
-use Rattle.osdm_texts.specs.declared.problem.Problem.TheVariants.{UnknownBooking, WrongState, OfferTooOld, QuoteWrong, NoMemory}
+use Rattle.osdm_parts.specs.declared.problem.Problem.{Problem}
+use Rattle.osdm_parts.specs.declared.problem.Problem.TheVariants.{UnknownBooking, WrongState, OfferTooOld, QuoteWrong, NoMemory}
 use Rattle.osdm_texts.specs.Answers.{Reply, booking, refund_offer, problem}
 use Rattle.booking_service.specs.Deciding.{Replying, at_end}
 

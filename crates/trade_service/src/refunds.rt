@@ -6,7 +6,7 @@ ghost use Rattle.booking_rows.specs.declared.turns.Aim.TheVariants as aim;
 ghost use Rattle.booking_rows.specs.Aims.{end_of};
 ghost use Rattle.offer_codes.specs.Refunds.{is_refund};
 ghost use Rattle.refund_core.specs.Refunding.{IsRefunded};
-ghost use Rattle.osdm_texts.specs.declared.problem.Problem.TheVariants.{NoMemory};
+ghost use Rattle.osdm_parts.specs.declared.problem.Problem.TheVariants.{NoMemory};
 ghost use Rattle.osdm_texts.specs.Answers.{refund_offer, told_of, Tells};
 ghost use Rattle.shop.specs.Homes.{IsAtHome, StaysHome};
 ghost use Rattle.booking_service.specs.Deciding.{Answered, OnBooking, at_end};

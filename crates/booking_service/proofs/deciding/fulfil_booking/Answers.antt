@@ -2,7 +2,7 @@ use Rattle.std.proofs.Common.{◌∙◌, Some, None, refl, ap}
 use Rattle.history_model.specs.declared.phase.Phase.TheVariants as phase
 use Rattle.booking_rows.specs.Views.{RowSeen}
 use Rattle.confirm_core.specs.declared.fulfilling.Fulfilment.TheVariants as fulfilled
-use Rattle.osdm_texts.specs.declared.problem.Problem.TheVariants.{UnknownBooking, WrongState}
+use Rattle.osdm_parts.specs.declared.problem.Problem.TheVariants.{UnknownBooking, WrongState}
 use Rattle.osdm_texts.specs.Answers.{booking, reply_told}
 use Rattle.shop.proofs.Homes.{stays_then}
 use Rattle.booking_service.specs.Deciding.{FulfilsFound}

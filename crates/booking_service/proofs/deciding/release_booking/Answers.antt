@@ -4,7 +4,7 @@ use Rattle.booking_rows.specs.Views.{RowSeen}
 use Rattle.booking_rows.specs.Aims.{end_of}
 use Rattle.booking_rows.specs.declared.turns.Aim.TheVariants as aim
 use Rattle.refund_core.specs.declared.releasing.Released.TheVariants as released
-use Rattle.osdm_texts.specs.declared.problem.Problem.TheVariants.{UnknownBooking, WrongState}
+use Rattle.osdm_parts.specs.declared.problem.Problem.TheVariants.{UnknownBooking, WrongState}
 use Rattle.osdm_texts.specs.Answers.{booking, reply_told}
 use Rattle.shop.proofs.Homes.{stays_then}
 use Rattle.booking_service.specs.Deciding.{ReleasesFound}

@@ -1,5 +1,5 @@
 use Rattle.std.proofs.Common.{refl, rules, FitsSigned, w64, to_z-of_z}
-use Rattle.osdm_texts.proofs.Chains.{last_call}
+use Rattle.osdm_parts.proofs.Chains.{last_call}
 use Rattle.osdm_texts.proofs.bookings.put_end.Goals as goal
 
 pub returns-in_ok-put_amount-in-Some : goal.returns-in_ok-put_amount-in-Some

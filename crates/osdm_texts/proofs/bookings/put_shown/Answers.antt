@@ -1,7 +1,7 @@
 use Rattle.std.proofs.Common.{refl, map}
-use Rattle.osdm_texts.specs.Reservations.{reservations, reservation_tree}
+use Rattle.osdm_parts.specs.Reservations.{reservations, reservation_tree}
 use Rattle.osdm_texts.specs.Seen.{seen_of}
-use Rattle.osdm_texts.proofs.Chains.{one, step, last_call, ended}
+use Rattle.osdm_parts.proofs.Chains.{one, step, last_call, ended}
 use Rattle.osdm_texts.proofs.BookingTokens.{booking_tokens}
 use Rattle.osdm_texts.proofs.bookings.put_shown.Goals as goal
 

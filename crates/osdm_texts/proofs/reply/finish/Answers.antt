@@ -1,4 +1,4 @@
-use Rattle.osdm_texts.proofs.Chains.{written}
+use Rattle.osdm_parts.proofs.Chains.{written}
 use Rattle.osdm_texts.proofs.reply.finish.Goals as goal
 
 pub returns : goal.returns

@@ -1,5 +1,5 @@
 use Rattle.std.proofs.Common.{refl, rules, FitsSigned, w64, to_z-of_z}
-use Rattle.osdm_texts.proofs.Chains.{one, step, last, last_call}
+use Rattle.osdm_parts.proofs.Chains.{one, step, last, last_call}
 use Rattle.osdm_texts.proofs.reply.put_exchanged.Goals as goal
 
 pub returns : goal.returns

@@ -1,6 +1,6 @@
 use Rattle.std.proofs.Common.{refl, map}
-use Rattle.osdm_texts.specs.Offers.{offer_tree}
-use Rattle.osdm_texts.proofs.Chains.{one, step, last, last_call, ended}
+use Rattle.osdm_parts.specs.Offers.{offer_tree}
+use Rattle.osdm_parts.proofs.Chains.{one, step, last, last_call, ended}
 use Rattle.osdm_texts.proofs.reply.put_offer_list.Goals as goal
 
 pub returns : goal.returns

@@ -1,6 +1,6 @@
 use Rattle.std.proofs.Common.{◌∙◌, ◌++◌, ap, rules, FitsSigned, w64, to_z-of_z, List}
 use Rattle.json.specs.Token.{Token}
-use Rattle.osdm_texts.specs.Appends.{tokens_of}
+use Rattle.osdm_parts.specs.Appends.{tokens_of}
 use Rattle.osdm_texts.specs.Replies.{exchanged_tree}
 use Rattle.osdm_texts.proofs.reply.reply_text.Goals as goal
 

@@ -2,7 +2,7 @@ use Rattle.std.proofs.Common.{◌∙◌, ◌++◌, ap, List}
 use Rattle.json.specs.Token.{Token}
 use Rattle.osdm_texts.specs.Bookings.{booking_tree}
 use Rattle.osdm_texts.specs.Seen.{seen_of}
-use Rattle.osdm_texts.specs.Appends.{tokens_of}
+use Rattle.osdm_parts.specs.Appends.{tokens_of}
 use Rattle.osdm_texts.proofs.reply.shown_text.Goals as goal
 
 pub returns : goal.returns

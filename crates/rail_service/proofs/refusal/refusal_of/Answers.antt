@@ -1,5 +1,5 @@
 use Rattle.std.proofs.Common.{true, ap, ◌∙◌}
-use Rattle.osdm_texts.specs.declared.problem.Problem.{Problem}
+use Rattle.osdm_parts.specs.declared.problem.Problem.{Problem}
 use Rattle.osdm_texts.specs.Answers.{problem}
 use Rattle.rail_service.specs.Bytes.{reply_bytes}
 use Rattle.rail_service.proofs.Telling.{of_problem}

@@ -3,7 +3,7 @@ use Rattle.std.proofs.lemmas.Option.{IfSome_then}
 use Rattle.rail_ids.specs.declared.RowNo.{RowNo}
 use Rattle.leg_masks.specs.Interval.{PlacedSpan as Item}
 use Rattle.history_model.specs.declared.phase.Phase.TheVariants as phase
-use Rattle.osdm_texts.specs.Ids.{HasId}
+use Rattle.osdm_parts.specs.Ids.{HasId}
 use Rattle.osdm_texts.specs.Answers.{created, reply_told}
 use Rattle.osdm_texts.specs.Seen.{made_view}
 use Rattle.reservation_service.proofs.booking.created_answer.Goals as goal

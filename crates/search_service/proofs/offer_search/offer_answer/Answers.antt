@@ -1,7 +1,7 @@
 use Rattle.std.proofs.Common.{◌∙◌}
 use Rattle.std.proofs.lemmas.Option.{IfSome_then}
 use Rattle.shop.proofs.Oks.{ok_if, err_is}
-use Rattle.osdm_texts.specs.declared.problem.Problem.TheVariants.{NoMemory}
+use Rattle.osdm_parts.specs.declared.problem.Problem.TheVariants.{NoMemory}
 use Rattle.osdm_texts.proofs.Telling.{of_offers}
 use Rattle.search_service.proofs.offer_search.offer_answer.Goals as goal
 

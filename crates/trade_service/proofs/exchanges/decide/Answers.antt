@@ -3,8 +3,8 @@ use Rattle.leg_masks.specs.Interval.{PlacedSpan as Item}
 use Rattle.history_model.specs.declared.phase.Phase.TheVariants as phase
 use Rattle.offer_codes.specs.Exchanges.{ExchangeView}
 use Rattle.exchange_core.proofs.Kept.{ready_on}
-use Rattle.osdm_texts.specs.declared.problem.Problem.{Problem}
-use Rattle.osdm_texts.specs.declared.problem.Problem.TheVariants.{NoMemory}
+use Rattle.osdm_parts.specs.declared.problem.Problem.{Problem}
+use Rattle.osdm_parts.specs.declared.problem.Problem.TheVariants.{NoMemory}
 use Rattle.osdm_texts.specs.Answers.{exchanged, problem, refused, reply_told}
 use Rattle.osdm_texts.proofs.Telling.{of_problem}
 use Rattle.osdm_texts.specs.Seen.{made_view}

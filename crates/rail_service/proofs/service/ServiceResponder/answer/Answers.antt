@@ -7,7 +7,7 @@ use Rattle.claim_rule.proofs.Out.{makes_empty}
 use Rattle.rail_service.specs.Bytes.{reply_bytes}
 use Rattle.rail_service.proofs.Telling.{of_problem}
 use Rattle.rail_service.proofs.Awaiting.{asked_by_retailer, given_by, said_looks}
-use Rattle.osdm_texts.specs.declared.problem.Problem.{Problem}
+use Rattle.osdm_parts.specs.declared.problem.Problem.{Problem}
 use Rattle.rail_service.specs.Serving.{first_after, admitted, AsksAdmitted}
 use Rattle.rail_service.specs.Connections.{IsReading}
 use Rattle.rail_service.specs.Responding.{view_of}

@@ -1,0 +1,6 @@
+mod Plain
+mod SmallLemmas
+pub mod Chains
+mod PlaceLines
+mod Shown
+mod Ascii

@@ -1,0 +1,15 @@
+pub mod Times
+pub mod Ids
+pub mod Fields
+pub mod Statuses
+pub mod Problems
+pub mod SmallTexts
+pub mod Amounts
+pub mod AmountTokens
+pub mod Spots
+pub mod Offers
+pub mod Reservations
+pub mod Quotes
+pub mod Places
+pub mod PlaceTexts
+pub mod Appends

@@ -1,9 +1,0 @@
-use Rattle.osdm_texts.proofs.Chains.{one, step, last}
-use Rattle.osdm_texts.proofs.reservations.put_reservation.Goals as goal
-
-pub returns : goal.returns
-returns c =
-    rw (← c.reservation.view_is)
-    (last c.end_object.result
-    (step (step (step (step (step (step (one c.in_ok-begin_object.ensures) c.in_ok-put_count.ensures) c.in_ok-put_text.ensures) c.in_ok-put_count-2.ensures) c.in_ok-put_count-3.ensures) c.in_ok-put_text-2.ensures) c.in_ok-put_count-4.ensures)
-    c.end_object.ensures (cc))
