@@ -10,22 +10,16 @@
 
 mod bookings;
 mod draft;
-mod ends;
 mod export;
 mod fault;
 mod import;
 pub mod laws;
-mod letters;
 mod line;
-mod reader;
 mod tidy;
 mod wall_rows;
-mod writer;
 
 pub use export::export_text;
 pub use fault::{ExportFault, ImportFault};
 pub use import::import_books;
 pub use line::{BookingLine, LineEnd, push_line, push_stub};
-pub use reader::Reader;
 pub use tidy::export_tidy;
-pub use writer::push_field;
