@@ -5,8 +5,7 @@ use Rattle.std.proofs.lemmas.List.{append_cancel_left}
 use Rattle.std.proofs.lemmas.Bool.Decides.{Decides-eqb, nat_tests}
 use Rattle.history_model.proofs.ListLemmas.{All-append}
 use Rattle.cold_store.specs.Imports.{Begins, IsSome, StopsAt}
-use Rattle.line_text.specs.Lines.{IsLine}
-use Rattle.line_text.specs.Lines.{IsExportOf, IsNumber, IsSayable, SaidBooking, booking_line, export_lines, first_line, last_line, text_of}
+use Rattle.line_text.specs.Lines.{IsExportOf, IsLine, IsNumber, IsSayable, SaidBooking, booking_line, export_lines, first_line, last_line, text_of}
 use Rattle.line_text.proofs.LineText.{IsLine-booking, IsLine-first, IsLine-last}
 
 pub line_front : (line text rest : List ℕ) → ((line ++ 10 ∷ []) ++ text) ++ rest ≡ line ++ 10 ∷ (text ++ rest)

@@ -9,8 +9,7 @@ use Rattle.history_model.proofs.ListLemmas.{All-append}
 use Rattle.line_text.specs.declared.heads.SaidItem.{SaidItem}
 use Rattle.line_text.specs.declared.ends.SaidEnd.{SaidEnd}
 use Rattle.line_text.specs.declared.ends.SaidRow.{SaidRow}
-use Rattle.line_text.specs.Lines.{IsLine}
-use Rattle.line_text.specs.Lines.{AreItemNumbers, AreSuccessorNumbers, IsAmountNumber, IsEndSaid, IsNumber, IsSayable, SaidBooking, amount_text, booking_line, end_fields, first_line, head_text, item_field, item_text, items_fields, last_line, number_field, phase_text, successor_text}
+use Rattle.line_text.specs.Lines.{AreItemNumbers, AreSuccessorNumbers, IsAmountNumber, IsEndSaid, IsLine, IsNumber, IsSayable, SaidBooking, amount_text, booking_line, end_fields, first_line, head_text, item_field, item_text, items_fields, last_line, number_field, phase_text, successor_text}
 use Rattle.line_text.proofs.Numbers.{AreDigits, AreDigits-decimal}
 
 both : (a b : List ℕ) → IsLine a → IsLine b → IsLine (a ++ b)
