@@ -119,7 +119,8 @@ class Page:
         places = [CRATES / crate / "must-fail", ROOT / "edits" / crate]
         if not any((place / (edit + ".edit")).exists() for place in places):
             raise KeyError("%s has no must-fail edit %s" % (crate, edit))
-        return "`%s` (%s)" % (edit, crate)
+        mark = "" if (places[0] / (edit + ".edit")).exists() else r" \*"
+        return "`%s`%s (%s)" % (edit, mark, crate)
 
     def show_test(self, name):
         if not re.search(r"^(check|by_name) %s " % name, (ROOT / "tests" / "run").read_text(), re.M):

@@ -194,7 +194,7 @@ impl State {
     }
 
     /// Somebody waits for the cut of this number, and is told whether the committer is to be woken for it: it is to be
-    /// taken yet, and nobody has waited for it before.
+    /// taken yet, and nobody has waited for it or a later one before.
     pub fn want(&mut self, cut: u64) -> bool
         ensures standing { self.new.standing ≡ wanted_by cut self.old.standing }
         ensures wakes { (result ≡ true) ↔ Wakes cut self.old.standing }

@@ -11,10 +11,10 @@ use expiry_sweeper::sweep;
 use osdm_texts::{Written, write_swept};
 use rail_time::Moment;
 
-/// Expires every booking whose limit of confirmation was before now, and answers how many. Each booking that was
-/// prebooked and late when the sweep began is in another phase when it has ended. A booking whose row was given to
-/// another meanwhile is in no count. No memory is taken. The text is that of the reply by any catalogue: it
-/// names no station and no amount.
+/// Expires the bookings that it sees prebooked with a limit before now, but where another turn came first, and answers
+/// how many. Each booking that was prebooked and late when the sweep began is in another phase when it has ended. A
+/// booking whose last look shows that its row was given to another is in no count. No memory is taken. The text is that
+/// of the reply by any catalogue: it names no station and no amount.
 pub fn sweep_bookings(books: &Books, desk: &mut Desk, now: Moment) -> Written
     requires home { IsAtHome books.now desk.old }
     ensures home { StaysHome books.now desk.old desk.new }

@@ -1,4 +1,4 @@
-//! All that is sold, as it is asked: stations and runs, fares, places, retailers, rows and terms.
+//! A catalogue that was read: stations and runs, fares, places, retailers, rows and terms.
 //!
 //! Contracts see a `Catalogue` as a `CatalogueView`. `rail_catalogue` reads it from its file. It is never changed. Only
 //! `legs`, which lists the legs of all places, takes memory. `crosses` is the proof that threads may share it.

@@ -1,9 +1,9 @@
 //! Exchanging a booking for a new one, by a quote.
 //!
-//! A quote says what the new booking costs more than the old one is worth. It is checked first; then the caller holds
-//! the places of the new booking, and the exchange itself is one turn of the old booking, which names the new one as
-//! its successor. The new one is sealed and the old one ended only after that turn is won, so no item is ever in
-//! neither.
+//! A quote says what the new booking, with the exchange fee, costs more than the old one is worth. It is checked first;
+//! then the caller holds the places of the new booking, and the exchange itself is one turn of the old booking, which
+//! names the new one as its successor. The new one is sealed and the old one ended only after that turn is won, so no
+//! item is ever in neither.
 //!
 //! No call takes memory, and none waits: none is given anything to do it with.
 //!

@@ -31,9 +31,9 @@ pub enum QuotedExchange {
     WrongState { shown: Phase },
 }
 
-/// Quotes an exchange of this retailer's confirmed or fulfilled booking for an offer: what the offer costs more than
-/// the booking is worth now, in the phase that its look shows. The offer is in the ranges of its spelling, and so is
-/// the quote. At most 57 entries are added.
+/// Quotes an exchange of this retailer's confirmed or fulfilled booking for an offer: what the offer, with the exchange
+/// fee, costs more than the booking is worth now, in the phase that its look shows. The offer is in the ranges of its
+/// spelling, and so is the quote. At most 57 entries are added.
 pub fn quote_exchange(
     cat: &Catalogue,
     books: &Books,

@@ -1,4 +1,5 @@
 pub mod Texts
+pub mod Printing
 pub mod Opened
 pub mod Folded
 pub mod Written

@@ -8,7 +8,7 @@ use Rattle.journal_text.specs.Faults.{IsJournalFault}
 use Rattle.journal_text.specs.Folds.{FoldView, IsFold}
 use Rattle.journal_text.specs.declared.fault.JournalFault.{JournalFault}
 use Rattle.journal_text.specs.declared.fault.JournalFault.TheVariants as journal
-use Rattle.row_cuts.specs.Prints.{print_in}
+use Rattle.host_catalogue.specs.Prints.{print_in}
 use Rattle.host_catalogue.specs.Files.{Files, HasCause, IsFileFault, IsText, IsTextOf, IsTooLarge}
 use Rattle.host_catalogue.specs.Loading.{HasNone, IsRefusedText, LacksCatalogue, Loads}
 use Rattle.host_catalogue.specs.Opening.{IsExportFor, IsRefusal}

@@ -16,7 +16,6 @@ use claim_rule::{Books, Desk};
 use cold_store::ImportFault;
 use journal_text::{Folded, JournalFault, fold};
 use rail_io::Shelf;
-use row_cuts::print_of;
 use std::alloc::{AllocError, Global};
 
 /// Why the text of a journal gives no books.

@@ -12,7 +12,7 @@ use Rattle.host_catalogue.specs.declared.file.File.TheVariants.{Journal}
 use Rattle.host_journal.specs.declared.opened.Opened.{Opened}
 use Rattle.line_text.specs.Lines.{IsExportOf, SaidBooking}
 use Rattle.row_cuts.specs.Exports.{AreLinesOf}
-use Rattle.row_cuts.specs.Prints.{print_in}
+use Rattle.host_catalogue.specs.Prints.{print_in}
 use Rattle.host_journal.specs.declared.log.Head.{Head}
 use Rattle.host_journal.specs.declared.log.Lines.{Lines}
 use Rattle.host_catalogue.specs.Opening.{BeginsWith, IsExportFor, IsNotOpened, IsOpened}

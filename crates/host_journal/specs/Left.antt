@@ -7,7 +7,7 @@ use Rattle.line_text.specs.Lines.{SaidBooking}
 use Rattle.cold_store.specs.Right.{kept_of}
 use Rattle.journal_text.specs.Folds.{FoldView}
 use Rattle.row_cuts.specs.Exports.{AreLinesOf}
-use Rattle.row_cuts.specs.Prints.{print_in}
+use Rattle.host_catalogue.specs.Prints.{print_in}
 use Rattle.host_catalogue.specs.Files.{Files, most_of}
 use Rattle.host_catalogue.specs.Journals.{IsFoldFor, IsNotFolded}
 use Rattle.host_catalogue.specs.Opening.{BeginsWith, IsExportFor, IsNotOpened, IsOpened}

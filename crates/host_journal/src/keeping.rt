@@ -19,10 +19,10 @@ use crate::log::{Head, Kept, Lines, Log};
 use crate::opened::Opened;
 use answer_gate::Cuts;
 use catalogue_contents::Catalogue;
-use host_catalogue::{JournalRefusal, LoadFault, fold_books, import_from, open_books};
+use host_catalogue::{JournalRefusal, LoadFault, fold_books, import_from, open_books, print_of};
 use host_words::ServeWords;
 use rail_io::{Journal, JournalOpened, Shelf};
-use row_cuts::{export_rows, print_of};
+use row_cuts::export_rows;
 use std::alloc::{AllocError, Global};
 
 /// The most bytes that a journal may have at a start.
@@ -37,8 +37,8 @@ pub struct Keeping<'g, J, B> {
     pub bell: B,
 }
 
-/// Why serving with a journal didn't begin. That `Locked` and `Failed` have these causes no clause says, nor that the
-/// journal is there at `Exists`.
+/// Why serving with a journal didn't begin. That `Locked`, `Failed` and `NoMemory` have these causes no clause says,
+/// nor that the journal is there at `Exists`.
 #[derive(Drop)]
 pub enum KeepFault {
     /// Another host has the journal.
@@ -49,11 +49,11 @@ pub enum KeepFault {
     TooLarge,
     /// Its text gives no books of the catalogue.
     Refused(JournalRefusal),
-    /// It isn't there, and the export that the books are to begin with gives none.
+    /// It isn't there, and the export that is named gives no books; or there was no memory for new ones.
     NotLoaded(LoadFault),
     /// It couldn't be read, or not be written anew.
     Failed,
-    /// There was no memory for its text.
+    /// There was no memory.
     NoMemory,
 }
 

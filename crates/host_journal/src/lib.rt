@@ -21,6 +21,7 @@
 //! - A desk makes an entry that isn't a look only while somebody is inside of the gate. So say `begun` of `say_begun`
 //!   (rail_service) and of `sweep_begun` (host_serve), as far as the `Inside` that the clock holds is this gate's,
 //!   and as far as `serve` calls no `perform` or `sweep` besides. Both are read.
+//! - A host begins with a fresh gate, and its journal has what its books opened with.
 //! - Whoever leaves was inside: the call takes that `Inside`.
 //! - An answer's cut is given after all that the answer tells was seen.
 //! - The journal has each cut before the one that it has. A cut's looks begin once it is taken.

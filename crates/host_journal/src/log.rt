@@ -89,7 +89,7 @@ impl<J: Journal> Log<J> {
     }
 
     /// Whether the journal is to be written anew. It is to be long and have eight times what its bookings take; or
-    /// twice that, from half of what a start reads on; or it comes near to that, and has grown by much.
+    /// twice that, from `HALF` bytes on; or it is to have come to `MOST` bytes, and grown by `LONG`.
     pub fn is_grown(&self) -> bool {
         let more = self.size.saturating_sub(self.least);
         self.size >= LONG && self.size / 8 >= self.least

@@ -50,9 +50,10 @@ use std::thread::Threads;
 /// | 4 | all connections have ended, and the notes failed in the writing of the export |
 /// | 5 | there was no memory to begin with, or, where all connections have ended, for the export |
 ///
-/// Each has the note of its end, after the export. A device that has failed as often as is counted may have failed
-/// before this call. After a failed accept the status is 3, whatever becomes of the
-/// export. The notes take all of it, a front of it where they fail, or nothing of it, of which no clause says a cause.
+/// That there was no memory at status 5 no clause says. Each has the note of its end, after the export. A device that
+/// has failed as often as is counted may have failed before this call. After a failed accept the status is 3, whatever
+/// becomes of the export. The notes take all of it, a front of it where they fail, or nothing of it, of which no clause
+/// says a cause.
 ///
 /// The end of one connection changes no status, and neither does a note that fails. It may wait, so all this is said
 /// where it returns. Wherever a stream was handed out, the books are finished and handed back. In the wall's history

@@ -51,8 +51,9 @@ pub trait Server<S, K> {
 }
 
 /// Each request that is taken is answered once, in order, up to a write fault, by its method and path: with how some
-/// host does, with some numbers, or with 500. Or there is no memory, and nothing is taken or written: of that no clause
-/// says a cause.
+/// host does, with some numbers, or with 404, 405 or 500. Or there is no memory, and nothing is taken or written: of
+/// that no clause says a cause. Where the source and the sink don't tell their bytes, as those of a socket don't,
+/// `shown` names none that came or went, and says nothing of answers.
 pub fn show_pages<R: Wait, S: Source, K: Sink>(
     source: &mut S,
     sink: &mut K,
@@ -94,7 +95,8 @@ impl<R: Wait, S: Source + Drop, K: Sink + Drop> Server<S, K> for Pages<'_, R> {
     }
 }
 
-/// Serves all who come, one after the other, until there will be none any more or the server is over.
+/// Serves all who come, one after the other, until there will be none any more, the server is over, or 2^64 - 1 were
+/// served.
 pub fn show_all<W: Callers, V: Server<W::Input, W::Output>>(callers: &mut W, server: &mut V)
     ensures all { ServesAll (calls W.hands W.ends V.serves V.over)
         (counter callers.old server.old) (counter callers.new server.new) }

@@ -13,7 +13,7 @@ use std::{io, time};
 /// counts, it counts requests by their route, and how long it takes from a request's moment to its answer.
 ///
 /// One reading gives a request its moment and begins its time. So where the system's clock is set meanwhile, that
-/// request's time is wrong, and none where it was set back.
+/// request's time is wrong, and none where it was set back past the request's moment.
 #[derive(Drop)]
 pub struct CountingClock<'c, N> {
     time: N,

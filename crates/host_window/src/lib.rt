@@ -5,12 +5,13 @@
 //! clock, and counts requests and times. They are to raise the numbers of `Counters`, which all threads share and which
 //! are added up where they are asked for. What these shared numbers are, no clause says.
 //!
-//! `show_all` serves each caller that it is handed, once and in order, until there will be none any more or the server
-//! is over (`ServesAll`). `Pages` serve one by `show_pages`: each request that is taken is answered once, in order, up
-//! to a write fault, by its method and path. The answer says how some host does, has some numbers, or is 500. Or there
-//! is no memory, and nothing is taken or written. `window_page` writes the counts for Prometheus, in its text format of
-//! version 0.0.4. Its contract says every byte: `specs/Texts` has the form of a family of numbers, `specs/Metrics` the
-//! families, and `specs/Routes` those of routes.
+//! `show_all` serves each caller that it is handed, once and in order, until there will be none any more, the server is
+//! over, or 2^64 - 1 were served (`ServesAll`). `Pages` serve one by `show_pages`: where its source and sink tell their
+//! bytes, each request that is taken is answered once, in order, up to a write fault, by its method and path. The
+//! answer says how some host does, has some numbers, or is 404, 405 or 500. Or there is no memory, and nothing is taken
+//! or written. `window_page` writes the counts for Prometheus, in its text format of version 0.0.4. Its contract says
+//! every byte: `specs/Texts` has the form of a family of numbers, `specs/Metrics` the families, and `specs/Routes`
+//! those of routes.
 //!
 //! What is in the books a member of the host looks up, where the window asks for it by `Findings`, by which sweeps also
 //! tell what they found. `specs/Finds` has their families.

@@ -1,6 +1,6 @@
 use std::alloc::AllocError;
 
-/// Why a text is no journal, the first of these that is so.
+/// Why a text gives no fold. The others exclude each other, and `NoMemory` may come with any text.
 #[derive(Clone, Copy, Debug, PartialEq, Eq)]
 pub enum JournalFault {
     /// The first line isn't that of a journal.

@@ -2,7 +2,8 @@
 
 ghost use Rattle.journal_text.specs.Laws.{CutsAreFoldedBack};
 
-/// What is written is folded as its own lines: the last line of each row, with no fault but lack of memory.
+/// What is written, of lines in their places, is folded as these lines: the last one of each row, with no fault but
+/// lack of memory.
 pub fn cuts_are_folded_back()
     ensures { CutsAreFoldedBack }
 {}

@@ -128,7 +128,7 @@ pub fn serve_permitted<S: Source, K: Outlet, C: Clock>(
 ///
 /// Where source and sink don't tell their bytes, as those of a socket don't, `served` names none that came or went.
 /// What is left of it there is safety: the desk's entries are those of some requests, answered in order, and no place
-/// is sold twice. The cause of each end holds there too.
+/// is sold twice. The cause of each end by a fault holds there too.
 pub fn serve_connection<S: Source, K: Sink, C: Clock>(
     alloc: Global,
     cat: &Catalogue,

@@ -43,9 +43,8 @@ use trade_service::{
 ///
 /// The answer is the command's defined reply, by the desk's own entries in this very call, whatever other desks do
 /// meanwhile. They are no more than the catalogue, the moment and the order give. A sweep leaves no booking prebooked
-/// that was so when it began, with a limit before the moment. The books have the catalogue's places and rows, and the
-/// command is one that was read.
-/// Inlined, since an answer is large to hand on.
+/// that was so when it began, with a limit before the moment. Nothing is out at the desk, the books have the
+/// catalogue's places and rows, and the command is one that was read. Inlined, since an answer is large to hand on.
 #[inline(always)]
 pub fn perform(
     alloc: Global,

@@ -3,7 +3,6 @@ pub mod Writing
 pub mod Counting
 pub mod Selling
 pub mod Folding
-pub mod Printing
 pub mod ReadBack
 pub mod Told
 pub mod Quiet

@@ -2,7 +2,6 @@ pub mod Looks
 pub mod Counts
 pub mod Sold
 pub mod Lines
-pub mod Prints
 pub mod Cuts
 pub mod Quiet
 pub mod Kept

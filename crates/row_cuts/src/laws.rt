@@ -12,12 +12,13 @@ pub fn lines_are_of_one_moment()
 {}
 
 /// Cuts of rows fold to an export. Each cut has the lines of the rows that changed since the one before, as they are at
-/// its moment, and the first cut has all rows. Then the fold is the text of the export of the state at the last cut.
+/// its moment, no row that had one is left without, and the first cut has all rows. Then the fold is the text of the
+/// export of the state at the last cut.
 pub fn cuts_fold_to_exports()
     ensures { CutsFoldToExports }
 {}
 
-/// Each fold of the journal that was written of such cuts is that export.
+/// Each fold of the journal that was written of such cuts, whose lines are in their places, is that export.
 pub fn journals_fold_to_exports()
     ensures { JournalsFoldToExports }
 {}

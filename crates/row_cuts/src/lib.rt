@@ -13,12 +13,9 @@
 //!
 //! `count_rows` counts the rows by their phase, and `count_sold` the sold places by their class, by looks alone.
 //!
-//! `print_of` is a print of what the numbers of a catalogue's places mean.
-//!
 //! `specs/Looks` has what looks at rows show, `Lines` what is written of them, and `Quiet` when they are of one moment.
 //! `Kept` has what of a row stays, `Cuts` what cuts fold to, `Told` what of an answer is there afterwards, `Exports`
-//! which lines an export has, `Counts` and `Sold` what a count is, and `Prints` the text of a print. `laws` says what
-//! holds of them.
+//! which lines an export has, and `Counts` and `Sold` what a count is. `laws` says what holds of them.
 #![tactic(auto)]
 
 mod counts;
@@ -26,11 +23,9 @@ mod exports;
 pub mod laws;
 mod lines;
 mod looks;
-mod prints;
 mod sold;
 
 pub use counts::{RowCount, count_rows};
 pub use exports::export_rows;
 pub use lines::{push_all_lines, push_marked_lines};
-pub use prints::print_of;
 pub use sold::{SoldCount, count_sold};

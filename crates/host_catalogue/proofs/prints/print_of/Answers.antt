@@ -1,9 +1,9 @@
 use Rattle.std.proofs.Common.{[], ◌∷◌, ◌++◌, ◌∙◌, ap}
 use Rattle.std.specs.Prelude.{codes}
 use Rattle.journal_text.specs.Texts.{sum_of}
-use Rattle.row_cuts.specs.Prints.{places_text, runs_text}
-use Rattle.row_cuts.proofs.Printing.{whole}
-use Rattle.row_cuts.proofs.prints.print_of.Goals as goal
+use Rattle.host_catalogue.specs.Prints.{places_text, runs_text}
+use Rattle.host_catalogue.proofs.Printing.{whole}
+use Rattle.host_catalogue.proofs.prints.print_of.Goals as goal
 
 pub returns : goal.returns
 returns c =

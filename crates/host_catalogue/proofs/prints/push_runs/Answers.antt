@@ -1,5 +1,5 @@
-use Rattle.row_cuts.proofs.Printing.{one_run_more}
-use Rattle.row_cuts.proofs.prints.push_runs.Goals as goal
+use Rattle.host_catalogue.proofs.Printing.{one_run_more}
+use Rattle.host_catalogue.proofs.prints.push_runs.Goals as goal
 
 pub loop-number-preserved : goal.loop-number-preserved
 loop-number-preserved c =

@@ -1,7 +1,7 @@
 //! The print of what a catalogue's numbers mean.
 ghost use Rattle.std.specs.Prelude.{◌≡◌, ◌++◌, IfOk, OnOk};
-ghost use Rattle.row_cuts.specs.Prints.{class_text, place_text, places_text, print_in, run_text, run_text_at};
-ghost use Rattle.row_cuts.specs.Prints.{runs_text, stop_text, stops_text};
+ghost use Rattle.host_catalogue.specs.Prints.{class_text, place_text, places_text, print_in, run_text, run_text_at};
+ghost use Rattle.host_catalogue.specs.Prints.{runs_text, stop_text, stops_text};
 
 use catalogue_contents::Catalogue;
 use journal_text::Sum;

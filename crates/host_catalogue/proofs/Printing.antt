@@ -3,7 +3,7 @@ use Rattle.std.proofs.Common.{◌≡◌, ℕ, zero, suc, ◌+◌, List, [], ◌�
 use Rattle.std.specs.Option.{option_map_or}
 use Rattle.train_runs.specs.Runs.{RunsView}
 use Rattle.train_runs.specs.Stops.{RunView}
-use Rattle.row_cuts.specs.Prints.{run_text, runs_text}
+use Rattle.host_catalogue.specs.Prints.{run_text, runs_text}
 
 abbrev text_at : RunsView → List RunView → ℕ → List ℕ
 text_at runs all n = option_map_or (run_text runs) (slice_get all n) []
