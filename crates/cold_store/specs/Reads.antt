@@ -1,12 +1,13 @@
 -- What a reader of a line of a text answers.
-use Rattle.std.specs.Prelude.{◌≡◌, ℕ, ◌+◌, ◌≤◌, ◌++◌, ◌∷◌, Bool, false, true, List, [], Option, Some, None, IfSome, IsSomeAnd, length, map, nat_lt, if◌then◌else◌}
+use Rattle.std.specs.Prelude.{◌≡◌, ℕ, ◌≤◌, ◌++◌, ◌∷◌, Bool, false, true, List, [], Option, Some, None, IfSome, IsSomeAnd, length, map, nat_lt, if◌then◌else◌}
 use Rattle.std.specs.List.{AllByRecursion}
 use Rattle.leg_masks.specs.Interval.{PlacedSpan as Item}
 use Rattle.history_model.specs.Booking.{most_items}
 use Rattle.line_text.specs.declared.heads.Head.{Head}
 use Rattle.line_text.specs.declared.heads.SaidItem.{SaidItem}
 use Rattle.line_text.specs.declared.ends.SaidEnd.{SaidEnd}
-use Rattle.line_text.specs.Lines.{AreItemNumbers, IsNumber, IsSayable, SaidBooking, booking_line, first_line, items_fields, number_field}
+use Rattle.line_text.specs.Lines.{AreItemNumbers, IsNumber, IsSayable, SaidBooking}
+use Rattle.line_text.specs.Lines.{booking_line, first_line, items_fields, number_field}
 use Rattle.cold_store.specs.Right.{IsWithin, head_of, kept_item}
 
 -- the items are those that were said; there are none where these are too many, or one doesn't lie within its place

@@ -1,9 +1,10 @@
-//! The text of an export, field by field: its lines as they are written and read, of numbers, letters, items and ends.
+//! The text of an export's lines, field by field: numbers, letters, items and ends, as they are written and read.
 //!
 //! What is written at the end of a text, a reader takes from the front. `specs/Lines` has the form of a text, and
 //! `Reads` what a reader answers of it.
 //!
-//! It knows no wall and no books, and so is proved beside `claim_rule`; `journal_text` has its lines of it.
+//! It knows no wall and no books. It is a crate of its own so that `journal_text`, whose cuts have the same fields, is
+//! proved side by side with `cold_store`.
 #![tactic(auto)]
 
 mod ends;
