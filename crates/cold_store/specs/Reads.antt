@@ -8,6 +8,7 @@ use Rattle.line_text.specs.declared.heads.SaidItem.{SaidItem}
 use Rattle.line_text.specs.declared.ends.SaidEnd.{SaidEnd}
 use Rattle.line_text.specs.Lines.{AreItemNumbers, IsNumber, IsSayable, SaidBooking}
 use Rattle.line_text.specs.Lines.{booking_line, first_line, items_fields, number_field}
+use Rattle.line_text.specs.Reads.{IsCut}
 use Rattle.cold_store.specs.Right.{IsWithin, head_of, kept_item}
 
 -- the items are those that were said; there are none where these are too many, or one doesn't lie within its place
