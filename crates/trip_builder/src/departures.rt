@@ -1,6 +1,7 @@
 ghost use Rattle.std.specs.Prelude.{◌≡◌, ◌<◌, ◌≤◌, ◌+◌, ◌^◌, length};
 ghost use Rattle.train_runs.specs.Stops.{most_stops, stop_at, no_stop as nowhere};
-ghost use Rattle.trip_builder.specs.Segments.{stops_of as stops_of_run, first_stop, last_stop, last_of, first_of};
+ghost use Rattle.train_runs.specs.Runs.{stops_of as stops_of_run};
+ghost use Rattle.trip_builder.specs.Segments.{first_stop, last_stop, last_of, first_of};
 ghost use Rattle.trip_builder.specs.Trips.{leaves, change_at, longest_wait};
 ghost use Rattle.trip_builder.specs.Search.{AreLeaving, AreAllLeaving, Rise, IsWindowOf, first_after, last_after};
 

@@ -1,8 +1,7 @@
 ghost use Rattle.std.specs.Prelude.{◌≡◌, ◌≤◌, ◌<◌, ◌^◌, ◌+◌, ℕ, [], length, List, IfOk};
-ghost use Rattle.train_runs.specs.Runs.{RunsView};
+ghost use Rattle.train_runs.specs.Runs.{RunsView, stops_of as stops_of_run};
 ghost use Rattle.train_runs.specs.declared.departure.Departure.{Departure};
 ghost use Rattle.train_runs.specs.declared.wish.TripWish.{TripWish};
-ghost use Rattle.trip_builder.specs.Segments.{stops_of as stops_of_run};
 ghost use Rattle.trip_builder.specs.Search.{Rise};
 ghost use Rattle.trip_builder.specs.Ends.{IsThere};
 ghost use Rattle.trip_builder.specs.Shortest.{ride_from as ride_from_in, AreLowered, AreRidesTo, AreShortest, AreFromDepartures, TakesAtLeast};
