@@ -6,9 +6,9 @@ use Rattle.cold_store.specs.declared.fault.ImportFault.{ImportFault}
 use Rattle.cold_store.specs.declared.fault.ImportFault.TheVariants.{NotAnExport, Sizes, RowWrong, Overlap, OwnSuccessor, NoMemory}
 use Rattle.cold_store.specs.Exports.{NoneBelow}
 use Rattle.cold_store.specs.Imports.{IsFirstBad, IsImportFault, IsSome, IsRightText}
-use Rattle.cold_store.specs.Lines.{IsExportOf, SaidBooking, text_of}
+use Rattle.line_text.specs.Lines.{IsExportOf, SaidBooking, text_of}
 use Rattle.cold_store.specs.Right.{AreRight, IsApartAt, IsFirstWrong, IsRight, OwnsSuccessor}
-use Rattle.cold_store.proofs.OneList.{one_list}
+use Rattle.line_text.proofs.OneList.{one_list}
 
 regroup : (a line more : List ℕ) → (a ++ ((line ++ 10 ∷ []) ++ [])) ++ more ≡ a ++ (line ++ 10 ∷ more)
 regroup a line more = simp append_assoc

@@ -15,9 +15,9 @@ use Rattle.history_model.proofs.Bits.{place_word-same}
 use Rattle.history_model.proofs.Items.{any-append}
 use Rattle.history_model.proofs.ListLemmas.{All-append, All-both, All-map, All-of_map, flat_map-append}
 use Rattle.claim_rule.specs.Openings.{KeptBooking, booked, layout_with, opening_booking, opening_of}
-use Rattle.cold_store.specs.declared.bookings.SaidItem.{SaidItem}
+use Rattle.line_text.specs.declared.heads.SaidItem.{SaidItem}
 use Rattle.cold_store.specs.Drafts.{DraftView, IsDrafted, NoneMeet, MeetsItem, drafted, first_word_of, put, with_items, with_taken, with_words, words_of_line}
-use Rattle.cold_store.specs.Lines.{HasLetter, SaidBooking}
+use Rattle.line_text.specs.Lines.{HasLetter, SaidBooking}
 use Rattle.cold_store.specs.Right.{AreClear, IsApartAt, IsRightAlone, IsWithin, head_of, kept_item}
 use Rattle.cold_store.proofs.Apart.{apart-ended, apart-more, ended-apart, letter_cases, more-apart, state_said}
 use Rattle.cold_store.proofs.LineWords.{length-words, row-put, said_words}

@@ -11,13 +11,13 @@ use Rattle.history_model.specs.declared.phase.EndKind.{EndKind}
 use Rattle.history_model.specs.declared.phase.Phase.TheVariants.{Ended}
 use Rattle.history_model.specs.Lists.{Pairwise}
 use Rattle.history_model.specs.Phase.{is_live}
-use Rattle.cold_store.specs.declared.bookings.Head.{Head}
-use Rattle.cold_store.specs.declared.bookings.SaidItem.{SaidItem}
+use Rattle.line_text.specs.declared.heads.Head.{Head}
+use Rattle.line_text.specs.declared.heads.SaidItem.{SaidItem}
 use Rattle.cold_store.specs.declared.draft.Follows.{Follows}
-use Rattle.cold_store.specs.declared.ends.SaidEnd.{SaidEnd}
-use Rattle.cold_store.specs.declared.ends.SaidRow.{SaidRow}
+use Rattle.line_text.specs.declared.ends.SaidEnd.{SaidEnd}
+use Rattle.line_text.specs.declared.ends.SaidRow.{SaidRow}
 use Rattle.cold_store.specs.Drafts.{AddsLine, AreRisingRows, DraftView, IsDraftOf, IsDrafted, IsFirstWrongAlone, IsNextRow, IsPlaceOf, IsRightLine, IsWholeDraft, MayAdd, MeetsItem, NoneMeet, follows_of, noted, row_said, with_items, with_line}
-use Rattle.cold_store.specs.Lines.{HasLetter, SaidBooking}
+use Rattle.line_text.specs.Lines.{HasLetter, SaidBooking}
 use Rattle.cold_store.specs.Reads.{AreItemsOf, IsLineOf, LineView}
 use Rattle.cold_store.specs.Right.{AreClear, IsEndIn, IsHeadRight, IsRightAlone, IsWithin, head_of, kept_item}
 use Rattle.cold_store.proofs.Adding.{drafted-more, none_meet}

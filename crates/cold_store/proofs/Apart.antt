@@ -12,9 +12,9 @@ use Rattle.history_model.specs.Lists.{Across, Pairwise}
 use Rattle.history_model.specs.Phase.{is_ended, is_live}
 use Rattle.history_model.proofs.ListLemmas.{All-both, All-map, All-of_map, All-under_map}
 use Rattle.claim_rule.specs.Openings.{KeptBooking, booked, opening_booking, opening_of}
-use Rattle.cold_store.specs.declared.bookings.SaidItem.{SaidItem}
+use Rattle.line_text.specs.declared.heads.SaidItem.{SaidItem}
 use Rattle.cold_store.specs.Drafts.{drafted}
-use Rattle.cold_store.specs.Lines.{HasLetter, SaidBooking}
+use Rattle.line_text.specs.Lines.{HasLetter, SaidBooking}
 use Rattle.cold_store.specs.Right.{AreClearAt, IsApartAt, kept_item, span_of}
 use Rattle.cold_store.proofs.Overlaps.{AreClearAt as AreFreeAt}
 use Rattle.cold_store.proofs.Pairs.{Across-swap, All-joined, All-parts, Pairwise-push, Pairwise-pushed, All-each}

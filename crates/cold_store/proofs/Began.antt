@@ -14,12 +14,12 @@ use Rattle.history_model.specs.Phase.{is_ended}
 use Rattle.history_model.proofs.Generations.{next_above}
 use Rattle.history_model.proofs.ListLemmas.{All-both, All-of_map, All-under_map}
 use Rattle.claim_rule.specs.Openings.{booked, end_in, opening_booking, opening_of}
-use Rattle.cold_store.specs.declared.bookings.SaidItem.{SaidItem}
-use Rattle.cold_store.specs.declared.ends.SaidRow.{SaidRow}
+use Rattle.line_text.specs.declared.heads.SaidItem.{SaidItem}
+use Rattle.line_text.specs.declared.ends.SaidRow.{SaidRow}
 use Rattle.cold_store.specs.Exports.{NoneBelow}
 use Rattle.cold_store.specs.Imports.{OpensAs}
 use Rattle.cold_store.specs.Laws.{HasBegun}
-use Rattle.cold_store.specs.Lines.{HasLetter, IsSayable, SaidBooking}
+use Rattle.line_text.specs.Lines.{HasLetter, IsSayable, SaidBooking}
 use Rattle.cold_store.specs.Right.{AreClear as AreClearSaid, HasLine, IsEndIn, IsRight, OwnsSuccessor, kept_item, kept_of}
 use Rattle.cold_store.proofs.Steady.{AreSteady, EndsRight, IsRightEnd, IsSteady}
 

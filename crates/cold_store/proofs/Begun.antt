@@ -15,10 +15,10 @@ use Rattle.history_model.specs.Laws.{IsOpening, IsSound, is_owners, stage}
 use Rattle.history_model.proofs.ListLemmas.{All-both, All-found, All-map, All-of_map}
 use Rattle.history_model.proofs.Generations.{generation_below, stands_there}
 use Rattle.claim_rule.specs.Openings.{AreRising, HasOwnEnd, KeptBooking, MayOpen, end_in, layout_with, opening_booking, opening_of}
-use Rattle.cold_store.specs.declared.ends.SaidEnd.{SaidEnd}
-use Rattle.cold_store.specs.declared.ends.SaidRow.{SaidRow}
+use Rattle.line_text.specs.declared.ends.SaidEnd.{SaidEnd}
+use Rattle.line_text.specs.declared.ends.SaidRow.{SaidRow}
 use Rattle.cold_store.specs.Imports.{IsRightText}
-use Rattle.cold_store.specs.Lines.{IsEndSaid, IsSayable, SaidBooking}
+use Rattle.line_text.specs.Lines.{IsEndSaid, IsSayable, SaidBooking}
 use Rattle.cold_store.specs.Right.{HasLine, IsRight, kept_of}
 use Rattle.cold_store.specs.Tidy.{AreSucceeded, HasSuccessor, IsExchanged, IsMade}
 

@@ -3,10 +3,10 @@ use Rattle.std.proofs.Common.{◌≡◌, ◌⊎◌, inl, inr, ℕ, ◌<◌, List
 use Rattle.std.specs.List.{AllByRecursion, last_or}
 use Rattle.std.proofs.lemmas.List.{append_cancel_left}
 use Rattle.history_model.specs.Lists.{Pairwise}
-use Rattle.cold_store.specs.declared.ends.SaidRow.{SaidRow}
+use Rattle.line_text.specs.declared.ends.SaidRow.{SaidRow}
 use Rattle.cold_store.specs.Drafts.{IsNextRow, row_said}
-use Rattle.cold_store.specs.Lines.{IsSayable, SaidBooking, booking_line, end_fields, items_fields, last_line, number_field, phase_field}
-use Rattle.cold_store.proofs.Numbers.{same_number}
+use Rattle.line_text.specs.Lines.{IsSayable, SaidBooking, booking_line, end_fields, items_fields, last_line, number_field, phase_field}
+use Rattle.line_text.proofs.Numbers.{same_number}
 
 -- lines of one booking are of one row
 

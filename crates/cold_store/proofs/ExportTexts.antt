@@ -9,7 +9,8 @@ use Rattle.std.proofs.lemmas.Grind.{flat_map-append}
 use Rattle.claim_rule.specs.Openings.{KeptBooking, kept_bookings, kept_of_row}
 use Rattle.claim_rule.specs.Walls.{WallView}
 use Rattle.cold_store.specs.Exports.{row_text, state_on}
-use Rattle.cold_store.specs.Lines.{SaidBooking, booking_line, export_text_of, first_line, last_line, said_of, text_of}
+use Rattle.cold_store.specs.Written.{said_of}
+use Rattle.line_text.specs.Lines.{SaidBooking, booking_line, export_text_of, first_line, last_line, text_of}
 
 -- what is said of the rows below a number
 abbrev pub said_below : WallView → ℕ → List SaidBooking

@@ -1,8 +1,9 @@
 -- The first line, read.
 use Rattle.std.proofs.Common.{◌≡◌, ℕ, true, false, List, [], ◌∷◌, ◌++◌, codes, Option, Some, None, refl, sym, ap, ◌∙◌, append_assoc}
 use Rattle.std.proofs.lemmas.List.{append_cancel_left}
-use Rattle.cold_store.specs.Lines.{IsNumber, first_line}
-use Rattle.cold_store.specs.Reads.{AreNumbers, Eats, Reads, ReadsFirst, two_fields}
+use Rattle.line_text.specs.Lines.{IsNumber, first_line}
+use Rattle.cold_store.specs.Reads.{ReadsFirst}
+use Rattle.line_text.specs.Reads.{AreNumbers, Eats, Reads, two_fields}
 
 abbrev pub first_word : List ℕ
 first_word = codes "rail-export 1"

@@ -5,9 +5,9 @@ use Rattle.std.proofs.lemmas.Bool.{cases_lt, cases_eq}
 use Rattle.std.proofs.lemmas.List.{get_or_default}
 use Rattle.history_model.specs.Lists.{Pairwise}
 use Rattle.cold_store.specs.declared.draft.Follows.{Follows}
-use Rattle.cold_store.specs.declared.ends.SaidRow.{SaidRow}
+use Rattle.line_text.specs.declared.ends.SaidRow.{SaidRow}
 use Rattle.cold_store.specs.Drafts.{DraftView, EachDraft, HasLineOf, IsBeforeWrong, IsDraftOf, IsDrafted, IsFirstWrongAlone, IsLeastOwn, follows_of}
-use Rattle.cold_store.specs.Lines.{SaidBooking}
+use Rattle.line_text.specs.Lines.{SaidBooking}
 use Rattle.cold_store.specs.Right.{AreRight, HasLine, IsFirstWrong, IsRight, IsRightAlone, OwnsSuccessor}
 use Rattle.cold_store.proofs.Follows.{All-from_in, All-in, In, follows_in, follows_rise, in_cases, in_follows, in_left, in_of, in_parts, in_right, line_said, of_in, rows_before, rows_behind, said_line, said_rise}
 use Rattle.cold_store.proofs.SearchLines.{Pairwise-at}

@@ -3,9 +3,9 @@ use Rattle.std.proofs.Common.{◌≡◌, ◌≢◌, ◌⊎◌, ⊎_elim, inl, in
 use Rattle.std.specs.List.{AllByRecursion, Contains, cons_option}
 use Rattle.history_model.specs.Lists.{Pairwise}
 use Rattle.cold_store.specs.declared.draft.Follows.{Follows}
-use Rattle.cold_store.specs.declared.ends.SaidRow.{SaidRow}
+use Rattle.line_text.specs.declared.ends.SaidRow.{SaidRow}
 use Rattle.cold_store.specs.Drafts.{AreRisingRows, HasLineOf, follows_of, row_said}
-use Rattle.cold_store.specs.Lines.{SaidBooking}
+use Rattle.line_text.specs.Lines.{SaidBooking}
 use Rattle.cold_store.specs.Right.{HasLine}
 use Rattle.cold_store.proofs.Pairs.{Pairwise-under_map}
 

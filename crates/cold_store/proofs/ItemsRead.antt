@@ -6,10 +6,11 @@ use Rattle.std.proofs.lemmas.List.{length-map, map-append}
 use Rattle.leg_masks.specs.Interval.{PlacedSpan as Item}
 use Rattle.history_model.proofs.ListLemmas.{All-append, flat_map-append}
 use Rattle.history_model.specs.Booking.{most_items}
-use Rattle.cold_store.specs.declared.bookings.SaidItem.{SaidItem}
-use Rattle.cold_store.specs.Lines.{AreItemNumbers, item_field, items_fields}
+use Rattle.line_text.specs.declared.heads.SaidItem.{SaidItem}
+use Rattle.line_text.specs.Lines.{AreItemNumbers, item_field, items_fields}
 use Rattle.cold_store.specs.Right.{IsWithin, kept_item}
-use Rattle.cold_store.specs.Reads.{AreItemsOf, IsCut, Reads, ReadsItems, items_with}
+use Rattle.cold_store.specs.Reads.{AreItemsOf, ReadsItems, items_with}
+use Rattle.line_text.specs.Reads.{IsCut, Reads}
 
 -- lists
 

@@ -1,7 +1,7 @@
 -- The last of some lines.
 use Rattle.std.proofs.Common.{◌≡◌, ℕ, ◌+◌, ◌-◌, ◌<◌, ◌≤◌, ◌↔◌, List, [], ◌∷◌, length, slice_get, Option, Some, None, IfSome, refl, sym, ap, ◌∙◌, subst, arith}
 use Rattle.std.specs.List.{last_or}
-use Rattle.cold_store.specs.declared.ends.SaidRow.{SaidRow}
+use Rattle.line_text.specs.declared.ends.SaidRow.{SaidRow}
 use Rattle.cold_store.specs.Drafts.{IsNextRow}
 
 last_get : (x : SaidRow) (xs : List SaidRow) → slice_get (x ∷ xs) (length xs) ≡ last_or (Some x) xs

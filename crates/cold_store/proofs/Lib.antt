@@ -2,17 +2,11 @@ pub mod Steady
 pub mod Began
 pub mod Listed
 pub mod RoundTrip
-pub mod Numbers
-pub mod Steps
-pub mod Parts
-pub mod OneList
 pub mod Accepted
 pub mod Opens
-pub mod NoSuccessor
 pub mod ItemsRead
 pub mod LineRead
 pub mod FirstLine
-pub mod LineText
 pub mod Splits
 pub mod Behind
 pub mod Reading

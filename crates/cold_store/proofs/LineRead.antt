@@ -4,12 +4,13 @@ use Rattle.std.proofs.lemmas.List.{append_cancel_left}
 use Rattle.leg_masks.specs.Interval.{PlacedSpan as Item}
 use Rattle.history_model.specs.declared.phase.Phase.{Phase}
 use Rattle.history_model.specs.declared.phase.Phase.TheVariants.{Ended}
-use Rattle.cold_store.specs.declared.bookings.Head.{Head}
-use Rattle.cold_store.specs.declared.bookings.SaidItem.{SaidItem}
-use Rattle.cold_store.specs.declared.ends.SaidEnd.{SaidEnd}
-use Rattle.cold_store.specs.Lines.{IsEndSaid, IsNumber, IsSayable, SaidBooking, booking_line, end_fields, head_text, items_fields, number_field}
+use Rattle.line_text.specs.declared.heads.Head.{Head}
+use Rattle.line_text.specs.declared.heads.SaidItem.{SaidItem}
+use Rattle.line_text.specs.declared.ends.SaidEnd.{SaidEnd}
+use Rattle.line_text.specs.Lines.{IsEndSaid, IsNumber, IsSayable, SaidBooking, booking_line, end_fields, head_text, items_fields, number_field}
 use Rattle.cold_store.specs.Right.{head_of}
-use Rattle.cold_store.specs.Reads.{AreItemsOf, Eats, IsCut, IsHeadSaid, Reads, ReadsItems, ReadsLine, head_fields}
+use Rattle.cold_store.specs.Reads.{AreItemsOf, ReadsItems, ReadsLine}
+use Rattle.line_text.specs.Reads.{Eats, IsCut, IsHeadSaid, Reads, head_fields}
 
 regroup : (h a b c d x : List ℕ) → h ++ (a ++ (b ++ (c ++ (d ++ x)))) ≡ (h ++ (a ++ (b ++ (c ++ d)))) ++ x
 regroup h a b c d x = simp append_assoc

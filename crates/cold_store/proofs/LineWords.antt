@@ -11,10 +11,10 @@ use Rattle.history_model.specs.Phase.{row_word_of}
 use Rattle.history_model.specs.Words.{row_word}
 use Rattle.history_model.proofs.Writing.{no_word, word_in}
 use Rattle.claim_rule.specs.Openings.{KeptBooking, end_words, item_words, opening_booking, opening_words}
-use Rattle.cold_store.specs.declared.bookings.Head.{Head}
-use Rattle.cold_store.specs.declared.ends.SaidEnd.{SaidEnd}
+use Rattle.line_text.specs.declared.heads.Head.{Head}
+use Rattle.line_text.specs.declared.ends.SaidEnd.{SaidEnd}
 use Rattle.cold_store.specs.Drafts.{drafted, drafted_successor, end_words_of, put, words_of_line}
-use Rattle.cold_store.specs.Lines.{SaidBooking}
+use Rattle.line_text.specs.Lines.{SaidBooking}
 use Rattle.cold_store.specs.Right.{head_of, kept_item}
 use Rattle.cold_store.proofs.Presents.{OtherRows, present-else, present-none, present-push}
 use Rattle.cold_store.proofs.Puts.{put-before, put-behind, put-within}

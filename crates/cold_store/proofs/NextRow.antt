@@ -3,9 +3,9 @@ use Rattle.std.proofs.Common.{◌≡◌, ◌≢◌, ℕ, ◌<◌, ◌≤◌, Lis
 use Rattle.std.specs.List.{AllByRecursion, last_or}
 use Rattle.history_model.specs.Lists.{Pairwise}
 use Rattle.history_model.proofs.ListLemmas.{All-map, All-under_map}
-use Rattle.cold_store.specs.declared.ends.SaidRow.{SaidRow}
+use Rattle.line_text.specs.declared.ends.SaidRow.{SaidRow}
 use Rattle.cold_store.specs.Drafts.{AreRisingRows, IsNextRow, row_said}
-use Rattle.cold_store.specs.Lines.{SaidBooking}
+use Rattle.line_text.specs.Lines.{SaidBooking}
 use Rattle.cold_store.proofs.Pairs.{Pairwise-push}
 
 below_from : (row : ℕ) (x : SaidRow) (xs : List SaidRow) → IfSome (last_or (Some x) xs) (λ last. last.row < row) → AreRisingRows (x ∷ xs) → AllByRecursion (λ (l : SaidRow). l.row < row) (x ∷ xs)

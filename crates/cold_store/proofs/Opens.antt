@@ -23,10 +23,10 @@ use Rattle.history_model.proofs.ListLemmas.{Across-parts, All-both, All-map, All
 use Rattle.claim_rule.specs.Openings.{AreRising, HasOwnEnd, KeptBooking, MayOpen, booked, end_in, end_words, item_words, layout_with, opening_booking, opening_of}
 use Rattle.claim_rule.proofs.OpeningKept.{kept_at, present_found}
 use Rattle.claim_rule.proofs.OpeningWords.{end_long}
-use Rattle.cold_store.specs.declared.bookings.SaidItem.{SaidItem}
-use Rattle.cold_store.specs.declared.ends.SaidEnd.{SaidEnd}
-use Rattle.cold_store.specs.declared.ends.SaidRow.{SaidRow}
-use Rattle.cold_store.specs.Lines.{HasLetter, IsEndSaid, IsSayable, SaidBooking}
+use Rattle.line_text.specs.declared.heads.SaidItem.{SaidItem}
+use Rattle.line_text.specs.declared.ends.SaidEnd.{SaidEnd}
+use Rattle.line_text.specs.declared.ends.SaidRow.{SaidRow}
+use Rattle.line_text.specs.Lines.{HasLetter, IsEndSaid, IsSayable, SaidBooking}
 use Rattle.cold_store.specs.Right.{AreClear, AreClearAt, AreRight, HasLine, IsApartAt, IsEndIn, IsRight, IsRightAlone, IsWithin, kept_item, kept_of}
 
 -- keys

@@ -7,7 +7,7 @@ use Rattle.cold_store.specs.Exports.{IsClosed, IsExport, said_on, state_on}
 use Rattle.cold_store.specs.Laws.{HasBegun, HasSizes, IsReadBack}
 use Rattle.cold_store.specs.Right.{kept_of}
 use Rattle.cold_store.proofs.Accepted.{accepted}
-use Rattle.cold_store.proofs.OneList.{one_list}
+use Rattle.line_text.proofs.OneList.{one_list}
 use Rattle.cold_store.proofs.Opens.{may_open}
 use Rattle.cold_store.proofs.RoundTrip.{all_back, read_back}
 

@@ -5,12 +5,13 @@ use Rattle.std.proofs.lemmas.List.{append_cancel_left, length-append, length-map
 use Rattle.std.proofs.lemmas.Bool.Decides.{Decides-eqb}
 use Rattle.history_model.specs.Lists.{Pairwise}
 use Rattle.history_model.proofs.ListLemmas.{flat_map-append}
-use Rattle.cold_store.specs.declared.bookings.Head.{Head}
-use Rattle.cold_store.specs.declared.ends.SaidRow.{SaidRow}
+use Rattle.line_text.specs.declared.heads.Head.{Head}
+use Rattle.line_text.specs.declared.ends.SaidRow.{SaidRow}
 use Rattle.cold_store.specs.Drafts.{AddsLine, DraftView, IsDraftOf, IsNextRow, MayAdd, ReadsNext, row_said}
 use Rattle.cold_store.specs.Imports.{Begins, IsFirstBad, IsReadText}
-use Rattle.cold_store.specs.Lines.{HasLetter, IsExportOf, IsNumber, IsSayable, SaidBooking, booking_line, export_lines, export_text_of, first_line, last_line, number_field, text_of}
-use Rattle.cold_store.specs.Reads.{Eats, EatsLast, LineView, ReadsFirst}
+use Rattle.line_text.specs.Lines.{HasLetter, IsExportOf, IsNumber, IsSayable, SaidBooking, booking_line, export_lines, export_text_of, first_line, last_line, number_field, text_of}
+use Rattle.cold_store.specs.Reads.{EatsLast, LineView, ReadsFirst}
+use Rattle.line_text.specs.Reads.{Eats}
 use Rattle.cold_store.proofs.Behind.{IsNextLine, Rises, apart, begin_apart, comes_behind, each_more, heads, rising_more, tails}
 use Rattle.cold_store.proofs.Splits.{GoesOn, NoneGoesOn, begun_lines, export_is_lines, stops}
 

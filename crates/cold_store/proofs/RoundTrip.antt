@@ -26,12 +26,13 @@ use Rattle.history_model.proofs.ListLemmas.{All-found, All-map, All-of_map}
 use Rattle.claim_rule.specs.Openings.{KeptBooking, end_in, kept_as, kept_bookings, kept_in, kept_of_row, placed, stub}
 use Rattle.claim_rule.specs.Walls.{WallView}
 use Rattle.claim_rule.proofs.OpeningKept.{IsSettled}
-use Rattle.cold_store.specs.declared.ends.SaidEnd.{SaidEnd}
-use Rattle.cold_store.specs.declared.ends.SaidRow.{SaidRow}
+use Rattle.line_text.specs.declared.ends.SaidEnd.{SaidEnd}
+use Rattle.line_text.specs.declared.ends.SaidRow.{SaidRow}
 use Rattle.cold_store.specs.Exports.{IsClosed, IsExport, IsOpenBooking, IsUnmade, NoneBelow, NoneOpen, said_on, state_on, text_on}
 use Rattle.cold_store.specs.Imports.{IsRightText}
 use Rattle.cold_store.specs.Laws.{HasBegun, HasSizes}
-use Rattle.cold_store.specs.Lines.{AreItemNumbers, AreRowNumbers, AreSuccessorNumbers, HasLetter, IsEndSaid, IsNumber, IsSayable, SaidBooking, nothing, said_item, said_of, said_successor}
+use Rattle.cold_store.specs.Written.{said_of}
+use Rattle.line_text.specs.Lines.{AreItemNumbers, AreRowNumbers, AreSuccessorNumbers, HasLetter, IsEndSaid, IsNumber, IsSayable, SaidBooking, nothing, said_item, said_successor}
 use Rattle.cold_store.specs.Right.{AreClear, AreClearAt, HasLine, IsApartAt, IsEndIn, IsRight, IsRightAlone, IsWithin, OwnsSuccessor, kept_item, kept_of}
 use Rattle.cold_store.proofs.Listed.{contains_map, contains_read, count_read, each_read, pair_found, pairs_read, Across-flip, Across-both}
 use Rattle.cold_store.proofs.Steady.{AreSteady, EndsRight, IsRightEnd, IsSteady, steady_all}

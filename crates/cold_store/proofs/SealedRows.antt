@@ -19,9 +19,10 @@ use Rattle.history_model.proofs.Owners.{on_row}
 use Rattle.history_model.proofs.Ranges.{all_found, ranges_all, row_of}
 use Rattle.claim_rule.specs.Openings.{KeptBooking, end_in, kept_as, kept_in, kept_of_row, placed, stub}
 use Rattle.claim_rule.specs.Walls.{WallView}
-use Rattle.cold_store.specs.declared.ends.SaidEnd.{SaidEnd}
+use Rattle.line_text.specs.declared.ends.SaidEnd.{SaidEnd}
 use Rattle.cold_store.specs.Exports.{HasItem, IsClosed, IsItemAt, IsShownAs, end_text, items_text, row_text, state_on, stub_text, words_text}
-use Rattle.cold_store.specs.Lines.{amount_field, booking_line, end_fields, head_text, item_field, items_fields, number_field, said_item, said_of, said_successor, successor_field, text_of}
+use Rattle.cold_store.specs.Written.{said_of}
+use Rattle.line_text.specs.Lines.{amount_field, booking_line, end_fields, head_text, item_field, items_fields, number_field, said_item, said_successor, successor_field, text_of}
 use Rattle.cold_store.proofs.WallRows.{get_placed, item_there, sound_on, word_on}
 
 pub record IsSealedOn (w : WallView) (row : ℕ) (b : Booking) : Type 0 where

@@ -8,13 +8,13 @@ use Rattle.history_model.specs.Lists.{Pairwise}
 use Rattle.history_model.specs.Words.{AreWordsOf}
 use Rattle.history_model.proofs.ListLemmas.{All-map}
 use Rattle.claim_rule.specs.Openings.{AllOpenings, KeptBooking, OpensWith, layout_with, opening_of}
-use Rattle.cold_store.specs.declared.ends.SaidRow.{SaidRow}
+use Rattle.line_text.specs.declared.ends.SaidRow.{SaidRow}
 use Rattle.cold_store.specs.Drafts.{DraftView, EachDraft, IsDraftOf, IsDrafted, IsFirstWrongAlone, IsLeastOwn, IsSomeDraft, drafted, drafted_successor}
 use Rattle.cold_store.specs.Exports.{IsLeastBelow, NoneBelow}
 use Rattle.cold_store.specs.declared.fault.ImportFault.{ImportFault}
 use Rattle.cold_store.specs.declared.fault.ImportFault.TheVariants.{NotAnExport, Sizes, RowWrong, Overlap, OwnSuccessor, NoMemory}
 use Rattle.cold_store.specs.Imports.{AreSound, IsFaultOf, IsImportFault, IsReadFault, IsReadText, IsSized, OpensAs}
-use Rattle.cold_store.specs.Lines.{IsExportOf, IsSayable, SaidBooking}
+use Rattle.line_text.specs.Lines.{IsExportOf, IsSayable, SaidBooking}
 use Rattle.cold_store.specs.Right.{AreRight, HasLine, IsApartAt, IsRight, IsRightAlone, OwnsSuccessor, kept_of}
 use Rattle.cold_store.proofs.Follows.{All-in, In, in_of, in_right, said_rise}
 use Rattle.cold_store.proofs.Opens.{may_open}

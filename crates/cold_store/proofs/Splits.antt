@@ -4,9 +4,9 @@ use Rattle.std.specs.List.{AllByRecursion}
 use Rattle.std.proofs.lemmas.List.{append_cancel_left}
 use Rattle.std.proofs.lemmas.Bool.Decides.{Decides-eqb, nat_tests}
 use Rattle.history_model.proofs.ListLemmas.{All-append}
-use Rattle.cold_store.specs.Imports.{Begins, IsLine, IsSome, StopsAt}
-use Rattle.cold_store.specs.Lines.{IsExportOf, IsNumber, IsSayable, SaidBooking, booking_line, export_lines, first_line, last_line, text_of}
-use Rattle.cold_store.proofs.LineText.{IsLine-booking, IsLine-first, IsLine-last}
+use Rattle.cold_store.specs.Imports.{Begins, IsSome, StopsAt}
+use Rattle.line_text.specs.Lines.{IsExportOf, IsLine, IsNumber, IsSayable, SaidBooking, booking_line, export_lines, first_line, last_line, text_of}
+use Rattle.line_text.proofs.LineText.{IsLine-booking, IsLine-first, IsLine-last}
 
 pub line_front : (line text rest : List ℕ) → ((line ++ 10 ∷ []) ++ text) ++ rest ≡ line ++ 10 ∷ (text ++ rest)
 line_front line text rest =

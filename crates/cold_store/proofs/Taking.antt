@@ -4,8 +4,8 @@ use Rattle.std.proofs.lemmas.List.Elements.{All-get_or}
 use Rattle.leg_masks.specs.Interval.{PlacedSpan as Item}
 use Rattle.std.specs.Option.{option_map_or}
 use Rattle.history_model.specs.Phase.{is_live}
-use Rattle.cold_store.specs.declared.bookings.Head.{Head}
-use Rattle.cold_store.specs.declared.ends.SaidEnd.{SaidEnd}
+use Rattle.line_text.specs.declared.heads.Head.{Head}
+use Rattle.line_text.specs.declared.ends.SaidEnd.{SaidEnd}
 use Rattle.cold_store.specs.Drafts.{DraftView, IsPlaceOf, IsWholeDraft, first_word_of, took, with_items, with_line, with_taken, with_words, words_of_line}
 use Rattle.cold_store.specs.Reads.{LineView}
 use Rattle.cold_store.proofs.Puts.{length-put}

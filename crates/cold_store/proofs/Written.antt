@@ -3,8 +3,8 @@ use Rattle.std.proofs.Common.{◌≡◌, List, [], ◌∷◌, ◌++◌, append_a
 use Rattle.std.proofs.lemmas.List.{length-map}
 use Rattle.leg_masks.specs.Interval.{PlacedSpan as Item}
 use Rattle.cold_store.specs.declared.line.BookingLine.{BookingLine}
-use Rattle.cold_store.specs.Lines.{booking_line, end_fields, head_text, items_fields, number_field, said_item, said_of}
-use Rattle.cold_store.specs.Written.{item_written, items_written, kept_text, line_numbers, said_end, said_line}
+use Rattle.line_text.specs.Lines.{booking_line, end_fields, head_text, items_fields, number_field, said_item}
+use Rattle.cold_store.specs.Written.{item_written, items_written, kept_text, line_numbers, said_end, said_line, said_of}
 
 all_written : (is : List Item) → items_fields (map said_item is) ≡ items_written is
 all_written [] = refl

@@ -13,12 +13,12 @@ use Rattle.history_model.specs.Lists.{Pairwise}
 use Rattle.history_model.specs.Phase.{is_live, row_word_of}
 use Rattle.history_model.specs.Words.{AreWordsOf, place_number}
 use Rattle.claim_rule.specs.Openings.{KeptBooking, layout_with, opening_of}
-use Rattle.cold_store.specs.declared.bookings.Head.{Head}
+use Rattle.line_text.specs.declared.heads.Head.{Head}
 use Rattle.cold_store.specs.declared.draft.Follows.{Follows}
-use Rattle.cold_store.specs.declared.ends.SaidEnd.{SaidEnd}
-use Rattle.cold_store.specs.declared.ends.SaidRow.{SaidRow}
+use Rattle.line_text.specs.declared.ends.SaidEnd.{SaidEnd}
+use Rattle.line_text.specs.declared.ends.SaidRow.{SaidRow}
 use Rattle.cold_store.specs.Exports.{IsLeastBelow, NoneBelow}
-use Rattle.cold_store.specs.Lines.{HasLetter, IsSayable, SaidBooking, booking_line}
+use Rattle.line_text.specs.Lines.{HasLetter, IsSayable, SaidBooking, booking_line}
 use Rattle.cold_store.specs.Reads.{IsLineOf, LineView}
 use Rattle.cold_store.specs.Right.{IsApartAt, IsEndIn, IsHeadRight, IsRightAlone, OwnsSuccessor, kept_of}
 

@@ -16,7 +16,8 @@ use Rattle.claim_rule.specs.Rule.{most_place_legs}
 use Rattle.claim_rule.specs.Walls.{WallView}
 use Rattle.cold_store.specs.declared.fault.ExportFault.{ExportFault}
 use Rattle.cold_store.specs.declared.fault.ExportFault.TheVariants.{RowOpen, PlaceHeld, NoMemory}
-use Rattle.cold_store.specs.Lines.{SaidBooking, booking_line, end_fields, export_text_of, items_fields, number_field, said_of, text_of}
+use Rattle.cold_store.specs.Written.{said_of}
+use Rattle.line_text.specs.Lines.{SaidBooking, booking_line, end_fields, export_text_of, items_fields, number_field, text_of}
 
 abbrev pub state_on : WallView → State
 state_on w = state_of w.layout w.history

@@ -1,5 +1,5 @@
 -- What an import answers.
-use Rattle.std.specs.Prelude.{◌≡◌, ◌≢◌, ◌⊎◌, ℕ, ◌+◌, ◌<◌, List, [], ◌∷◌, ◌++◌, map, length, min, All}
+use Rattle.std.specs.Prelude.{◌≡◌, ◌≢◌, ◌⊎◌, ℕ, ◌+◌, List, [], ◌∷◌, ◌++◌, map, length, min}
 use Rattle.std.specs.List.{AllByRecursion}
 use mathlib.Core.List.{IsPrefix}
 use Rattle.history_model.specs.Booking.{Layout}
@@ -8,7 +8,7 @@ use Rattle.cold_store.specs.declared.fault.ImportFault.{ImportFault}
 use Rattle.cold_store.specs.declared.fault.ImportFault.TheVariants.{NotAnExport, Sizes, RowWrong, Overlap, OwnSuccessor, NoMemory}
 use Rattle.cold_store.specs.Drafts.{DraftView, IsDraftOf}
 use Rattle.cold_store.specs.Exports.{IsLeastBelow, NoneBelow}
-use Rattle.cold_store.specs.Lines.{IsExportOf, SaidBooking, text_of}
+use Rattle.line_text.specs.Lines.{IsExportOf, IsLine, SaidBooking, text_of}
 use Rattle.cold_store.specs.Right.{AreRight, IsApartAt, IsFirstWrong, OwnsSuccessor, kept_of}
 
 -- the text is an export
@@ -18,10 +18,6 @@ IsSome text = (places rows : ℕ) × (said : List SaidBooking) × IsExportOf tex
 -- some export begins so
 abbrev pub Begins : List ℕ → Type 0
 Begins front = (text : List ℕ) × IsSome text × IsPrefix front text
-
--- the line has no line feed
-abbrev pub IsLine : List ℕ → Type 0
-IsLine line = AllByRecursion (λ c. c ≢ 10) line
 
 -- the lines before end the beginning of an export, and what is left is no whole line, or its first line ends no such
 -- beginning

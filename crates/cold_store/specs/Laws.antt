@@ -9,7 +9,7 @@ use Rattle.cold_store.specs.declared.fault.ImportFault.{ImportFault}
 use Rattle.cold_store.specs.declared.fault.ImportFault.TheVariants.{NoMemory}
 use Rattle.cold_store.specs.Exports.{IsClosed, IsExport, said_on, state_on}
 use Rattle.cold_store.specs.Imports.{IsImportFault, IsRightText, OpensAs}
-use Rattle.cold_store.specs.Lines.{IsExportOf, SaidBooking}
+use Rattle.line_text.specs.Lines.{IsExportOf, SaidBooking}
 use Rattle.cold_store.specs.Right.{kept_of}
 
 -- as many places, legs and rows as books may have

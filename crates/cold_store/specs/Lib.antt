@@ -1,4 +1,3 @@
-pub mod Lines
 pub mod Exports
 pub mod Tidy
 pub mod Right

@@ -13,11 +13,11 @@ use Rattle.history_model.specs.declared.phase.Phase.TheVariants.{Ended}
 use Rattle.history_model.specs.declared.phase.EndKind.{EndKind}
 use Rattle.history_model.specs.declared.phase.EndKind.TheVariants.{Expire, Exchange}
 use Rattle.claim_rule.specs.Openings.{KeptBooking}
-use Rattle.cold_store.specs.declared.bookings.Head.{Head}
-use Rattle.cold_store.specs.declared.bookings.SaidItem.{SaidItem}
-use Rattle.cold_store.specs.declared.ends.SaidEnd.{SaidEnd}
-use Rattle.cold_store.specs.declared.ends.SaidRow.{SaidRow}
-use Rattle.cold_store.specs.Lines.{SaidBooking}
+use Rattle.line_text.specs.declared.heads.Head.{Head}
+use Rattle.line_text.specs.declared.heads.SaidItem.{SaidItem}
+use Rattle.line_text.specs.declared.ends.SaidEnd.{SaidEnd}
+use Rattle.line_text.specs.declared.ends.SaidRow.{SaidRow}
+use Rattle.line_text.specs.Lines.{SaidBooking}
 
 abbrev pub span_of : SaidItem → Interval
 span_of i = record { from = i.from; to = i.to }

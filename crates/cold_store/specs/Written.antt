@@ -1,12 +1,12 @@
 -- What is written as the line of a booking.
-use Rattle.std.specs.Prelude.{ℕ, List, [], ◌∷◌, ◌++◌, flat_map, length}
+use Rattle.std.specs.Prelude.{ℕ, List, [], ◌∷◌, ◌++◌, flat_map, length, map}
 use Rattle.leg_masks.specs.Interval.{PlacedSpan as Item}
 use Rattle.history_model.specs.WholeEnds.{end_at}
 use Rattle.claim_rule.specs.Openings.{KeptBooking}
-use Rattle.cold_store.specs.declared.ends.SaidEnd.{SaidEnd}
+use Rattle.line_text.specs.declared.ends.SaidEnd.{SaidEnd}
 use Rattle.cold_store.specs.declared.line.BookingLine.{BookingLine}
 use Rattle.cold_store.specs.declared.line.LineEnd.{LineEnd}
-use Rattle.cold_store.specs.Lines.{booking_line, item_field, number_field, said_item, said_of, said_successor}
+use Rattle.line_text.specs.Lines.{SaidBooking, booking_line, item_field, number_field, said_item, said_successor}
 
 -- what a line says of an end
 abbrev pub said_end : LineEnd → SaidEnd
@@ -24,6 +24,20 @@ said_line l =
       total = l.total;
       items = l.items.now;
       end = end_at l.end.moment l.end.amount l.end.successor;
+    }
+
+-- what the line of a kept booking says
+abbrev pub said_of : KeptBooking → SaidBooking
+said_of k =
+    record {
+      row = k.row;
+      generation = k.generation;
+      phase = k.phase;
+      retailer = k.retailer;
+      limit = k.limit;
+      total = k.total;
+      items = map said_item k.items;
+      end = record { amount = k.end.amount; moment = k.end.moment; successor = said_successor k.end.successor };
     }
 
 -- the line of a booking, with its line feed

@@ -11,14 +11,14 @@ ghost use Rattle.history_model.specs.declared.phase.Phase.TheVariants.{Ended};
 ghost use Rattle.cold_store.specs.Drafts.{AddsLine, AreRisingRows, EachDraft, HasLineOf, IsBeforeWrong, IsDraftOf, IsLeastOwn, IsNextRow, IsPlaceOf, IsRightLine, IsRowOf, MayAdd, MeetsItem, NoneMeet, drafted_successor, end_words_of, least_of, noted, took, with_line, with_taken, with_words, words_of_line};
 ghost use Rattle.cold_store.specs.Right.{AreRight, IsEndIn, IsFirstWrong, IsHeadRight, OwnsSuccessor};
 
-use crate::bookings::{Head, Line};
-use crate::ends::{SaidEnd, SaidRow};
+use crate::bookings::Line;
 use crate::wall_rows::is_live;
 use arrayvec::ArrayVec;
 use history_model::booking::{GREATEST_AMOUNT, GREATEST_RETAILER, LAST_MOMENT, ROW_WORDS};
 use history_model::phase::{EndKind, Phase, amount_word_of, row_word_of};
 use history_model::successor::successor_word;
 use leg_masks::{HALVES, Item, half_of, mask_of, write_item};
+use line_text::{Head, SaidEnd, SaidRow};
 use rail_ids::{LAST_GENERATION, RowNo};
 use std::alloc::{AllocError, Global};
 use std::cmp::min;

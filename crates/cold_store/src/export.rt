@@ -10,15 +10,15 @@ ghost use Rattle.cold_store.specs.Exports.{AddsRows, IsClosed, IsExport, IsExpor
 use crate::fault::ExportFault;
 use crate::line::{push_head, push_stub};
 use crate::wall_rows::{first_held, first_open, item_at, live_words, shown_at, word_at};
-use crate::writer::{
-    push_amount, push_field, push_first_line, push_item, push_last_line, push_successor,
-};
 use claim_rule::Wall;
 use history_model::booking::{
     COUNT_WORD, END_AMOUNT_WORD, END_MOMENT_WORD, END_SUCCESSOR_WORD, LIMIT_WORD, RETAILER_WORD,
     TOTAL_WORD,
 };
 use history_model::phase::{EndKind, Phase};
+use line_text::{
+    push_amount, push_field, push_first_line, push_item, push_last_line, push_successor,
+};
 use std::alloc::{AllocError, Global};
 
 /// The export of a wall: the bookings that are kept. Nothing is said of how much memory it takes.

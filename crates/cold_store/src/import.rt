@@ -7,14 +7,14 @@ ghost use Rattle.claim_rule.specs.Out.{IsTidy};
 ghost use Rattle.claim_rule.specs.Desks.{IsNew, IsOf};
 ghost use Rattle.cold_store.specs.Drafts.{EachDraft, IsDraftOf, IsNextRow, IsSomeDraft, ReadsNext};
 ghost use Rattle.cold_store.specs.Imports.{AreSound, IsFaultOf, IsImportFault, IsReadFault, IsReadText, OpensAs, last_number};
-ghost use Rattle.cold_store.specs.Lines.{IsNumber};
+ghost use Rattle.line_text.specs.Lines.{IsNumber};
 ghost use Rattle.cold_store.specs.Reads.{EatsLast, ReadsFirst};
 
-use crate::bookings::Line;
+use crate::bookings::{Line, read_line};
 use crate::draft::Draft;
 use crate::fault::ImportFault;
-use crate::reader::Reader;
 use claim_rule::{Books, Desk, adopt_books};
+use line_text::Reader;
 use std::alloc::Global;
 
 /// Books that open with the bookings of an export, and their first desk. All other rows are free, and the history is
@@ -129,7 +129,7 @@ fn next_line(reader: &mut Reader<'_>, draft: &Draft, legs: &[u8]) -> Option<Line
     ensures some { IfSome result (λ line. IsNextRow draft.now.lines line.head.row) }
     ensures read { ReadsNext legs.now draft.now.lines reader.old.rest.now reader.new.rest.now result }
 {
-    let line = reader.line(legs)?;
+    let line = read_line(reader, legs)?;
     if !draft.is_next(line.head.row) {
         return None;
     }

@@ -1,13 +1,12 @@
 //! The line of a booking, written at the end of a text.
-ghost use Rattle.std.specs.Prelude.{◌≡◌, ◌++◌, OnOk, length};
+ghost use Rattle.std.specs.Prelude.{◌≡◌, ◌++◌, OnOk};
 ghost use Rattle.cold_store.specs.Exports.{stub_text};
-ghost use Rattle.cold_store.specs.Lines.{end_fields, head_text, number_field};
+ghost use Rattle.line_text.specs.Lines.{end_fields, head_text};
 ghost use Rattle.cold_store.specs.Written.{item_written, items_written, kept_text, line_numbers, said_end, said_line};
 
-use crate::letters::letter_of;
-use crate::writer::{push_amount, push_field, push_item, push_successor};
 use history_model::phase::{EndKind, Phase};
 use leg_masks::Item;
+use line_text::{letter_of, push_amount, push_field, push_item, push_successor};
 use std::alloc::AllocError;
 
 /// The end of a booking, as its line says it. The successor is the word of a row and a generation, or 0 for none.

@@ -7,7 +7,7 @@ use Rattle.claim_rule.specs.Out.{IsTidy}
 use Rattle.claim_rule.specs.Rule.{BooksView, DeskView}
 use Rattle.claim_rule.specs.Desks.{IsNew, IsOf}
 use Rattle.cold_store.specs.Imports.{IsImportFault, IsRightText}
-use Rattle.cold_store.specs.Lines.{SaidBooking}
+use Rattle.line_text.specs.Lines.{SaidBooking}
 use Rattle.cold_store.specs.Right.{kept_of}
 use Rattle.cold_store.specs.Tidy.{AreSucceeded}
 use Rattle.cold_store.specs.declared.fault.ImportFault.{ImportFault}

@@ -1,7 +1,7 @@
 -- The text whose sum says what the numbers of places mean.
 use Rattle.std.specs.Prelude.{ℕ, List, [], ◌∷◌, ◌++◌, codes, flat_map, slice_get}
 use Rattle.std.specs.Option.{option_map_or}
-use Rattle.cold_store.specs.Lines.{field, number_field}
+use Rattle.line_text.specs.Lines.{field, number_field}
 use Rattle.journal_text.specs.Texts.{sum_of}
 use Rattle.place_map.specs.declared.coach.Class.{Class}
 use Rattle.place_map.specs.declared.coach.Class.TheVariants.{First, Second}

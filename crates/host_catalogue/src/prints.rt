@@ -4,8 +4,8 @@ ghost use Rattle.host_catalogue.specs.Prints.{class_text, place_text, places_tex
 ghost use Rattle.host_catalogue.specs.Prints.{runs_text, stop_text, stops_text};
 
 use catalogue_contents::Catalogue;
-use cold_store::push_field;
 use journal_text::Sum;
+use line_text::push_field;
 use place_map::{Class, Place};
 use rail_ids::RunNo;
 use std::alloc::{AllocError, Global};

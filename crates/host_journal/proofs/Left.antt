@@ -10,7 +10,7 @@ use Rattle.rail_io.specs.declared.journal.JournalOpened.TheVariants.{Missing, Te
 use Rattle.host_catalogue.specs.Files.{Files, most_of}
 use Rattle.host_catalogue.specs.declared.file.File.TheVariants.{Journal}
 use Rattle.host_journal.specs.declared.opened.Opened.{Opened}
-use Rattle.cold_store.specs.Lines.{IsExportOf, SaidBooking}
+use Rattle.line_text.specs.Lines.{IsExportOf, SaidBooking}
 use Rattle.row_cuts.specs.Exports.{AreLinesOf}
 use Rattle.host_catalogue.specs.Prints.{print_in}
 use Rattle.host_journal.specs.declared.log.Head.{Head}

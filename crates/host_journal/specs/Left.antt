@@ -3,7 +3,7 @@ use Rattle.std.specs.Prelude.{◌≡◌, ◌⊎◌, ◌<◌, ℕ, List, [], Opti
 use Rattle.std.specs.Prelude.{length, map}
 use Rattle.claim_rule.specs.Openings.{KeptBooking}
 use Rattle.catalogue_contents.specs.Contents.{CatalogueView, legs_in}
-use Rattle.cold_store.specs.Lines.{SaidBooking}
+use Rattle.line_text.specs.Lines.{SaidBooking}
 use Rattle.cold_store.specs.Right.{kept_of}
 use Rattle.journal_text.specs.Folds.{FoldView}
 use Rattle.row_cuts.specs.Exports.{AreLinesOf}

@@ -1,7 +1,7 @@
 // The books that a journal leaves, and the log that goes on with it.
 ghost use Rattle.std.specs.Prelude.{◌≡◌, ℕ, List, [], Option, None, IfErr, IfOk, IfSome, true};
 ghost use Rattle.claim_rule.specs.Openings.{KeptBooking};
-ghost use Rattle.cold_store.specs.Lines.{IsExportOf, SaidBooking};
+ghost use Rattle.line_text.specs.Lines.{IsExportOf, SaidBooking};
 ghost use Rattle.row_cuts.specs.Exports.{AreLinesOf};
 ghost use Rattle.rail_io.specs.Journals.{Opens};
 ghost use Rattle.host_words.specs.Said.{said_in};

@@ -9,7 +9,8 @@ use Rattle.session_loop.specs.Session.{Answering, IsAnswered}
 use Rattle.history_model.specs.Booking.{Layout, State}
 use Rattle.claim_rule.specs.Openings.{KeptBooking, kept_bookings}
 use Rattle.claim_rule.specs.Rule.{DeskView, state_seen}
-use Rattle.cold_store.specs.Lines.{export_text_of, said_of}
+use Rattle.cold_store.specs.Written.{said_of}
+use Rattle.line_text.specs.Lines.{export_text_of}
 use Rattle.catalogue_contents.specs.Contents.{CatalogueView, legs_in}
 use Rattle.osdm_parts.specs.declared.problem.Problem.TheVariants.{NoMemory}
 use Rattle.osdm_texts.specs.Answers.{problem}

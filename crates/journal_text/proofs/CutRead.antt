@@ -1,8 +1,8 @@
 -- A cut, read.
 use Rattle.std.proofs.Common.{◌≡◌, ℕ, ◌-◌, ◌<◌, true, false, List, [], ◌∷◌, ◌++◌, codes, length, take, Option, Some, None, refl, sym, ap, subst, ◌∙◌, arith, append_assoc}
 use Rattle.std.proofs.lemmas.List.{append_cancel_left}
-use Rattle.cold_store.specs.Lines.{field}
-use Rattle.cold_store.specs.Reads.{Eats}
+use Rattle.line_text.specs.Lines.{field}
+use Rattle.line_text.specs.Reads.{Eats}
 use Rattle.journal_text.specs.declared.cut.Cut.{Cut}
 use Rattle.journal_text.specs.declared.cut.Opening.{Opening}
 use Rattle.journal_text.specs.Texts.{IsSaidCut, SaidCut, cut_text, opening_text, own_sum, sum_of, summed_text}

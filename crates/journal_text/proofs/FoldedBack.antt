@@ -3,7 +3,7 @@ use Rattle.std.proofs.Common.{◌≡◌, ◌≢◌, ◌⊎◌, inl, inr, ℕ, ze
 use Rattle.std.specs.List.{AllByRecursion}
 use Rattle.std.proofs.lemmas.List.{length-append}
 use Rattle.history_model.specs.Lists.{Pairwise}
-use Rattle.cold_store.specs.Lines.{text_of}
+use Rattle.line_text.specs.Lines.{text_of}
 use Rattle.journal_text.specs.declared.fault.JournalFault.{JournalFault}
 use Rattle.journal_text.specs.declared.fault.JournalFault.TheVariants.{BrokenCut, NoMemory, NotAJournal, WrongLine}
 use Rattle.journal_text.specs.Faults.{HasBrokenCut, HasWrongLine, IsJournalFault, StopsAfter}

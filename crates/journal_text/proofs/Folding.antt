@@ -4,7 +4,7 @@ use Rattle.std.specs.List.{cons_option, range_with_len}
 use Rattle.std.specs.List.{AllByRecursion}
 use Rattle.std.specs.Borrow.{Bor}
 use Rattle.std.proofs.lemmas.List.{length-append}
-use Rattle.cold_store.specs.Lines.{first_line, last_line, text_of}
+use Rattle.line_text.specs.Lines.{first_line, last_line, text_of}
 use Rattle.journal_text.specs.Folds.{FoldView, IsFold, all_lines, fold_text, last_lines, line_of}
 use Rattle.journal_text.specs.declared.fault.JournalFault.{JournalFault}
 use Rattle.journal_text.specs.declared.fault.JournalFault.TheVariants.{BrokenCut, NoMemory, NotAJournal, WrongLine}

@@ -2,9 +2,8 @@
 use Rattle.std.proofs.Common.{◌≡◌, ◌≢◌, ℕ, zero, suc, ◌+◌, ◌-◌, ◌==◌, ◌<◌, ◌≤◌, true, List, [], ◌∷◌, ◌++◌, codes, get_or, length, take, drop, Some, None, refl, sym, ap, subst, ◌∙◌, arith, append_assoc}
 use Rattle.std.proofs.lemmas.List.{append_cancel_left}
 use Rattle.std.proofs.lemmas.Bool.Decides.{nat_tests}
-use Rattle.cold_store.specs.Imports.{IsLine}
-use Rattle.cold_store.specs.Lines.{IsNumber, field, number_field}
-use Rattle.cold_store.specs.Reads.{Eats, Reads}
+use Rattle.line_text.specs.Lines.{IsLine, IsNumber, field, number_field}
+use Rattle.line_text.specs.Reads.{Eats, Reads}
 use Rattle.journal_text.specs.declared.lines.Line.{Line}
 use Rattle.journal_text.specs.Texts.{RowLine, row_text}
 use Rattle.journal_text.specs.Reads.{IsAnyLine, ReadsLine}

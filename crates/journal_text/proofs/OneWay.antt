@@ -3,9 +3,9 @@ use Rattle.std.proofs.Common.{◌≡◌, ℕ, zero, suc, ◌+◌, ◌^◌, ◌<�
 use Rattle.std.specs.List.{AllByRecursion}
 use Rattle.std.proofs.lemmas.List.{append_cancel_left, length-append}
 use Rattle.history_model.specs.Booking.{most_rows}
-use Rattle.cold_store.specs.Lines.{IsNumber, field, number_field, text_of}
-use Rattle.cold_store.specs.Reads.{IsCut}
-use Rattle.cold_store.proofs.Numbers.{same_number}
+use Rattle.line_text.specs.Lines.{IsNumber, field, number_field, text_of}
+use Rattle.line_text.specs.Reads.{IsCut}
+use Rattle.line_text.proofs.Numbers.{same_number}
 use Rattle.journal_text.specs.Reads.{said_opening_text}
 use Rattle.journal_text.specs.Texts.{AreLines, HasSumForm, IsHead, IsRowLine, IsSaidCut, RowLine, SaidCut, SaidHead, cut_of, cut_text, cuts_text, head_text, lines_text, own_sum, row_text, sum_after}
 use Rattle.journal_text.proofs.CutRead.{end_of, opening_of, parts_of}

@@ -5,7 +5,7 @@ use Rattle.std.proofs.lemmas.Bool.Decides.{nat_tests}
 use Rattle.std.specs.List.{AllByRecursion}
 use Rattle.std.specs.Borrow.{Bor}
 use Rattle.history_model.specs.Lists.{Pairwise}
-use Rattle.cold_store.specs.Lines.{IsNumber, text_of}
+use Rattle.line_text.specs.Lines.{IsNumber, text_of}
 use Rattle.journal_text.specs.Folds.{last_of, line_of}
 use Rattle.journal_text.specs.declared.lines.Line.{Line}
 use Rattle.journal_text.specs.Reads.{IsAnyLine, IsLineOf}

@@ -2,7 +2,7 @@
 use Rattle.std.proofs.Common.{◌≡◌, ℕ, ◌+◌, List, [], ◌∷◌, ◌++◌, length, take, drop, Some, None, sym, ap, subst, ◌∙◌, arith}
 use Rattle.std.proofs.lemmas.List.{append_cancel_left}
 use Rattle.std.specs.List.{AllPass}
-use Rattle.cold_store.specs.Reads.{Reads}
+use Rattle.line_text.specs.Reads.{Reads}
 use Rattle.journal_text.specs.declared.sum.Sum.{Sum}
 use Rattle.journal_text.specs.Texts.{is_hex}
 use Rattle.journal_text.specs.Reads.{IsSum, sum_field}

@@ -1,6 +1,6 @@
 -- The cause of each fault of a journal.
 use Rattle.std.specs.Prelude.{◌≡◌, ◌≢◌, ◌⊎◌, ℕ, ◌+◌, ◌<◌, List, [], ◌∷◌, ◌++◌, length}
-use Rattle.cold_store.specs.Lines.{text_of}
+use Rattle.line_text.specs.Lines.{text_of}
 use Rattle.journal_text.specs.declared.fault.JournalFault.{JournalFault}
 use Rattle.journal_text.specs.declared.fault.JournalFault.TheVariants.{NotAJournal, WrongLine, BrokenCut, NoMemory}
 use Rattle.journal_text.specs.Texts.{AreLines, Begins, HoldsCut, IsHead, IsSaidCut, RowLine, SaidCut, SaidHead, cut_text, head_text, end_sum, lines_text, row_text}

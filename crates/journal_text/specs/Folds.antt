@@ -1,7 +1,7 @@
 -- What a fold of a journal is.
 use Rattle.std.specs.Prelude.{◌≡◌, ℕ, ◌==◌, List, [], ◌∷◌, ◌++◌, Option, Some, None, map, length, filter, filter_map, flat_map}
 use Rattle.std.specs.List.{range_with_len}
-use Rattle.cold_store.specs.Lines.{first_line, last_line, text_of}
+use Rattle.line_text.specs.Lines.{first_line, last_line, text_of}
 use Rattle.journal_text.specs.Texts.{IsJournal, RowLine, SaidHead, end_sum, journal_text, row_text}
 
 -- the last of a list

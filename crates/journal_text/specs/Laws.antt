@@ -1,7 +1,7 @@
 -- What is so of every journal.
 use Rattle.std.specs.Prelude.{◌≡◌, ℕ, List, [], length}
 use Rattle.std.specs.List.{AllByRecursion}
-use Rattle.cold_store.specs.Lines.{IsNumber}
+use Rattle.line_text.specs.Lines.{IsNumber}
 use Rattle.journal_text.specs.declared.fault.JournalFault.{JournalFault}
 use Rattle.journal_text.specs.declared.fault.JournalFault.TheVariants.{NoMemory}
 use Rattle.journal_text.specs.Texts.{AreLines, IsHead, IsJournal, RowLine, SaidHead, journal_text}

@@ -1,13 +1,12 @@
 -- What a reader of a part of a journal answers.
 use Rattle.std.specs.Prelude.{◌≡◌, ℕ, List, [], ◌∷◌, ◌++◌, Option, Some, IfSome, IsSomeAnd, codes}
-use Rattle.cold_store.specs.Lines.{IsNumber, field, number_field}
 use Rattle.journal_text.specs.declared.cut.Cut.{Cut}
 use Rattle.journal_text.specs.declared.cut.Opening.{Opening}
 use Rattle.journal_text.specs.declared.head.Head.{Head}
 use Rattle.journal_text.specs.declared.lines.Line.{Line}
 use Rattle.journal_text.specs.declared.sum.Sum.{Sum}
 use Rattle.journal_text.specs.Texts.{HasSumForm, IsHead, IsSaidCut, RowLine, SaidCut, SaidHead, cut_text, head_text, own_sum, row_text}
-use Rattle.cold_store.specs.Imports.{IsLine}
+use Rattle.line_text.specs.Lines.{IsLine, IsNumber, field, number_field}
 
 abbrev pub said_head : Head → SaidHead
 said_head h = record { places = h.places; rows = h.rows; print = h.print.digits }

@@ -2,7 +2,7 @@
 use Rattle.std.specs.Prelude.{◌≡◌, ◌≢◌, ℕ, ◌+◌, ◌<◌, ◌≤◌, List, [], ◌∷◌, ◌++◌, Option, None, IfSome, IsSomeAnd, filter_map, flat_map, length, option_map, slice_index_or}
 use Rattle.std.specs.List.{AllByRecursion}
 use Rattle.std.specs.Borrow.{Bor}
-use Rattle.cold_store.specs.Lines.{first_line, last_line}
+use Rattle.line_text.specs.Lines.{first_line, last_line}
 use Rattle.journal_text.specs.declared.fault.JournalFault.{JournalFault}
 use Rattle.journal_text.specs.declared.fault.JournalFault.TheVariants.{WrongLine}
 use Rattle.journal_text.specs.declared.folded.Folded.{Folded}

@@ -5,8 +5,7 @@ use Rattle.hex.specs.Hex.{encode_lower}
 use Rattle.sha2.specs.Sha256.{sha256}
 use Rattle.history_model.specs.Booking.{most_rows}
 use Rattle.history_model.specs.Lists.{Pairwise}
-use Rattle.cold_store.specs.Imports.{IsLine}
-use Rattle.cold_store.specs.Lines.{IsNumber, field, number_field, text_of}
+use Rattle.line_text.specs.Lines.{IsLine, IsNumber, field, number_field, text_of}
 
 -- the sum of a text: its SHA-256, as 64 hex digits in lower case
 abbrev pub sum_of : List ℕ → List ℕ

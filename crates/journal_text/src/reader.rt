@@ -1,7 +1,7 @@
 //! A reader of a journal's text, from its front.
 ghost use Rattle.std.specs.Prelude.{◌≡◌, ◌-◌, ◌++◌, ◌<◌, ◌≤◌, length, MatchOption, take};
-ghost use Rattle.cold_store.specs.Lines.{IsNumber, number_field};
-ghost use Rattle.cold_store.specs.Reads.{Eats, Reads};
+ghost use Rattle.line_text.specs.Lines.{IsNumber, number_field};
+ghost use Rattle.line_text.specs.Reads.{Eats, Reads};
 ghost use Rattle.journal_text.specs.Reads.{IsSum, sum_field};
 
 use crate::sum::{SUM_DIGITS, Sum, are_hex};
@@ -17,7 +17,7 @@ impl<'a> Reader<'a> {
     pub(crate) fn eat(&mut self, bytes: &[u8]) -> bool
         ensures { Eats bytes.now self.old.rest.now self.new.rest.now result }
     {
-        let mut reader = cold_store::Reader { rest: self.rest };
+        let mut reader = line_text::Reader { rest: self.rest };
         let stood = reader.eat(bytes);
         self.rest = reader.rest;
         stood
@@ -27,7 +27,7 @@ impl<'a> Reader<'a> {
     pub(crate) fn field(&mut self) -> Option<u64>
         ensures { Reads number_field IsNumber self.old.rest.now self.new.rest.now result }
     {
-        let mut reader = cold_store::Reader { rest: self.rest };
+        let mut reader = line_text::Reader { rest: self.rest };
         let number = reader.field();
         self.rest = reader.rest;
         number

@@ -1,6 +1,6 @@
 //! The parts of a journal's text, written at its end.
 ghost use Rattle.std.specs.Prelude.{◌≡◌, ◌++◌, ◌∷◌, [], OnOk, IfOk};
-ghost use Rattle.cold_store.specs.Lines.{field, number_field, first_line, last_line};
+ghost use Rattle.line_text.specs.Lines.{field, number_field, first_line, last_line};
 ghost use Rattle.journal_text.specs.Texts.{cut_text, head_text, own_sum, sum_of};
 ghost use Rattle.journal_text.specs.Reads.{said_opening_text};
 

@@ -7,10 +7,9 @@ use Rattle.std.proofs.lemmas.List.Sums.{sum_by-append}
 use Rattle.std.proofs.Math.Seq.{drop-append_seam, get_or-append_seam, take-append_seam}
 use Rattle.memchr.specs.Find.{IsFirstByte, IsLastByte, is_byte, places}
 use Rattle.memchr.proofs.lemmas.CallerLemmas.{length-places}
-use Rattle.cold_store.specs.Imports.{IsLine}
-use Rattle.cold_store.specs.Lines.{IsExportOf, IsSayable, SaidBooking, booking_line, first_line, last_line, text_of}
+use Rattle.line_text.specs.Lines.{IsExportOf, IsLine, IsSayable, SaidBooking, booking_line, first_line, last_line, text_of}
 use Rattle.cold_store.proofs.ExportTexts.{whole_text}
-use Rattle.cold_store.proofs.LineText.{IsLine-booking, IsLine-first, IsLine-last}
+use Rattle.line_text.proofs.LineText.{IsLine-booking, IsLine-first, IsLine-last}
 use Rattle.row_cuts.specs.Exports.{IsWithin}
 
 -- where line feeds are

@@ -9,7 +9,8 @@ use Rattle.history_model.specs.declared.phase.Phase.{Phase}
 use Rattle.history_model.specs.declared.phase.Phase.TheVariants.{Free, Making, Prebooked, Confirmed, Fulfilled, Ending, Ended}
 use Rattle.history_model.proofs.Ranges.{row_of}
 use Rattle.claim_rule.specs.Openings.{KeptBooking, kept_as, kept_bookings, kept_in, kept_of_row, stub}
-use Rattle.cold_store.specs.Lines.{booking_line, export_text_of, first_line, last_line, said_of, text_of}
+use Rattle.cold_store.specs.Written.{said_of}
+use Rattle.line_text.specs.Lines.{booking_line, export_text_of, first_line, last_line, text_of}
 use Rattle.journal_text.specs.Folds.{all_lines, last_lines, last_of, line_of}
 use Rattle.journal_text.specs.Texts.{RowLine, row_text}
 use Rattle.row_cuts.specs.Cuts.{ComesAfter, Cut, FollowOn, IsAmong, IsKept, folded_text, last_state, lines_cut, row_line}

@@ -34,7 +34,7 @@ use Rattle.claim_rule.specs.Out.{is_look}
 use Rattle.claim_rule.specs.Rule.{DeskView, state_seen}
 use Rattle.claim_rule.proofs.Moves.{is_sound}
 use Rattle.claim_rule.proofs.Shapes.{shape_rest}
-use Rattle.cold_store.specs.Lines.{text_of}
+use Rattle.line_text.specs.Lines.{text_of}
 use Rattle.cold_store.proofs.WallRows.{word_on}
 use Rattle.booking_rows.specs.SealedRows.{FitWords}
 use Rattle.booking_rows.specs.Views.{HasSaidAmount, HasWord, LooksRow, RowSeen, has_end, said_amount, saw_end, saw_words, words_read}

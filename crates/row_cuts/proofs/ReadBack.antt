@@ -5,7 +5,8 @@ use Rattle.claim_rule.specs.Openings.{kept_bookings}
 use Rattle.claim_rule.specs.Walls.{WallView}
 use Rattle.cold_store.specs.Exports.{IsClosed, state_on, text_on}
 use Rattle.cold_store.specs.Laws.{HasBegun, HasSizes, IsReadBack}
-use Rattle.cold_store.specs.Lines.{export_text_of, said_of}
+use Rattle.cold_store.specs.Written.{said_of}
+use Rattle.line_text.specs.Lines.{export_text_of}
 use Rattle.cold_store.specs.Tidy.{IsTidyWall}
 use Rattle.cold_store.proofs.ReadAgain.{exports_read_back}
 use Rattle.cold_store.proofs.Tidied.{tidied}

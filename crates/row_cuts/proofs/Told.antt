@@ -28,7 +28,7 @@ use Rattle.claim_rule.proofs.Moves.{is_sound}
 use Rattle.claim_rule.proofs.OpeningKept.{kept_at, present_found}
 use Rattle.cold_store.specs.Exports.{state_on}
 use Rattle.cold_store.specs.Imports.{OpensAs}
-use Rattle.cold_store.specs.Lines.{SaidBooking}
+use Rattle.line_text.specs.Lines.{SaidBooking}
 use Rattle.cold_store.specs.Right.{kept_of}
 use Rattle.cold_store.proofs.Opens.{may_open}
 use Rattle.row_cuts.specs.Cuts.{Cut, folded_text}

@@ -18,7 +18,7 @@ use Rattle.claim_rule.specs.Out.{AllLooks, IsTidy, KeepsEndings, KeepsHolds, exc
 use Rattle.claim_rule.specs.Rule.{BooksView, DeskView}
 use Rattle.claim_rule.proofs.Out.{settled_calm, still_idle, tidy_through}
 use Rattle.claim_rule.proofs.Shapes.{shape_none, shape_then}
-use Rattle.cold_store.specs.Lines.{text_of}
+use Rattle.line_text.specs.Lines.{text_of}
 use Rattle.booking_rows.proofs.Looked.{row_looked}
 use Rattle.booking_rows.proofs.ViewLemmas.{looks_append}
 use Rattle.row_cuts.specs.Lines.{WritesLines, all_kept, kept_line, line_count, line_text}

@@ -6,8 +6,8 @@ use Rattle.claim_rule.specs.Openings.{KeptBooking, kept_bookings, kept_of_row}
 use Rattle.claim_rule.specs.Walls.{WallView}
 use Rattle.cold_store.specs.Exports.{IsClosed, state_on}
 use Rattle.cold_store.specs.Laws.{HasBegun, HasSizes, IsReadBack}
-use Rattle.cold_store.specs.Lines.{IsNumber, end_fields, export_text_of, items_fields, number_field, phase_field}
-use Rattle.cold_store.specs.Lines.{said_of}
+use Rattle.line_text.specs.Lines.{IsNumber, end_fields, export_text_of, items_fields, number_field, phase_field}
+use Rattle.cold_store.specs.Written.{said_of}
 use Rattle.cold_store.specs.Tidy.{IsTidyWall}
 use Rattle.journal_text.specs.Folds.{FoldView, IsFold, all_lines, fold_text}
 use Rattle.journal_text.specs.Texts.{AreLines, IsHead, RowLine, SaidHead, journal_text}

@@ -1,8 +1,7 @@
 -- The lines of an export's rows.
 use Rattle.std.specs.Prelude.{◌≡◌, ℕ, List, [], ◌∷◌, ◌++◌, length, map}
 use Rattle.std.specs.List.{AllByRecursion}
-use Rattle.cold_store.specs.Imports.{IsLine}
-use Rattle.cold_store.specs.Lines.{SaidBooking, booking_line, text_of}
+use Rattle.line_text.specs.Lines.{IsLine, SaidBooking, booking_line, text_of}
 
 -- the text has these lines, and a line before them and one after them
 pub record IsWithin (text first : List ℕ) (lines : List (List ℕ)) (last : List ℕ) : Type 0 where

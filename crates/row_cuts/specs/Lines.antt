@@ -5,7 +5,8 @@ use Rattle.std.specs.List.{AllByRecursion, range_with_len}
 use Rattle.std.specs.Int.{bit_at}
 use Rattle.history_model.specs.declared.entry.Step.{Step}
 use Rattle.claim_rule.specs.Openings.{KeptBooking}
-use Rattle.cold_store.specs.Lines.{booking_line, said_of, text_of}
+use Rattle.cold_store.specs.Written.{said_of}
+use Rattle.line_text.specs.Lines.{booking_line, text_of}
 use Rattle.row_cuts.specs.Looks.{IsRowLook, RowLook, kept_looked, looks_steps}
 
 -- the line of a kept booking, where there is one, and the count of these lines

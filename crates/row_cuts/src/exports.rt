@@ -1,6 +1,6 @@
 //! The lines of the rows that an export has.
 ghost use Rattle.std.specs.Prelude.{◌≡◌, ℕ, List};
-ghost use Rattle.cold_store.specs.Lines.{IsExportOf, SaidBooking, text_of};
+ghost use Rattle.line_text.specs.Lines.{IsExportOf, SaidBooking, text_of};
 ghost use Rattle.row_cuts.specs.Exports.{AreLinesOf, IsWithin};
 
 use memchr::{memchr, memchr_iter, memrchr};

@@ -5,8 +5,8 @@ use Rattle.leg_masks.specs.Interval.{PlacedSpan as Item}
 use Rattle.history_model.specs.declared.phase.Phase.{Phase}
 use Rattle.history_model.specs.declared.phase.Phase.TheVariants.{Ended}
 use Rattle.history_model.specs.declared.phase.EndKind.{EndKind}
-use Rattle.cold_store.specs.declared.bookings.Head.{Head}
-use Rattle.cold_store.specs.declared.ends.SaidEnd.{SaidEnd}
+use Rattle.line_text.specs.declared.heads.Head.{Head}
+use Rattle.line_text.specs.declared.ends.SaidEnd.{SaidEnd}
 use Rattle.cold_store.specs.Drafts.{IsRightLine, NoneMeet}
 use Rattle.cold_store.specs.Reads.{LineView}
 use Rattle.cold_store.specs.Right.{IsEndIn, IsHeadRight}

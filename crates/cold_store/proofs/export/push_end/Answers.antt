@@ -2,7 +2,7 @@ use Rattle.std.proofs.Common.{rules, ◌≡◌, ◌∙◌, ◌++◌, w64, to_z, 
 use mir.Val.{SFits}
 use Rattle.std.proofs.lemmas.Int.{to_z-of_z}
 use Rattle.std.proofs.lemmas.Result.{on_ok_weaker}
-use Rattle.cold_store.specs.Lines.{amount_field, number_field, said_successor, successor_field}
+use Rattle.line_text.specs.Lines.{amount_field, number_field, said_successor, successor_field}
 use Rattle.cold_store.proofs.SealedRows.{amount_is, end_text_is, ended_row, three_fields}
 use Rattle.cold_store.proofs.export.push_end.Goals as goal
 

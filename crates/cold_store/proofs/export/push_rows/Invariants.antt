@@ -1,5 +1,5 @@
 use Rattle.std.proofs.Common.{◌≡◌, ◌++◌, ◌≤◌, length, map}
-use Rattle.cold_store.specs.Lines.{booking_line, text_of}
+use Rattle.line_text.specs.Lines.{booking_line, text_of}
 use Rattle.cold_store.proofs.ExportTexts.{said_below}
 use Rattle.cold_store.proofs.export.push_rows.Given as goal
 

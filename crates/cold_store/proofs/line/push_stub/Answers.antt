@@ -4,7 +4,7 @@ use Rattle.std.proofs.lemmas.Fmt.{decimal_digit}
 use Rattle.history_model.specs.declared.phase.Phase.TheVariants.{Ended}
 use Rattle.history_model.specs.declared.phase.EndKind.TheVariants.{Release}
 use Rattle.cold_store.specs.Exports.{stub_text}
-use Rattle.cold_store.specs.Lines.{field, head_text}
+use Rattle.line_text.specs.Lines.{field, head_text}
 use Rattle.cold_store.proofs.line.push_stub.Goals as goal
 
 zero_is : decimal 0 ≡ 48 ∷ []

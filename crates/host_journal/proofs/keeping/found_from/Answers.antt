@@ -1,5 +1,5 @@
 use Rattle.std.proofs.Common.{List, ℕ, subst, sym}
-use Rattle.cold_store.specs.Lines.{IsExportOf, SaidBooking}
+use Rattle.line_text.specs.Lines.{IsExportOf, SaidBooking}
 use Rattle.row_cuts.specs.Exports.{AreLinesOf}
 use Rattle.host_catalogue.specs.Opening.{BeginsWith, export_name}
 use Rattle.host_journal.proofs.Left.{lines_for}

@@ -1,5 +1,5 @@
 use Rattle.std.proofs.Common.{List, ℕ, ap, subst}
-use Rattle.cold_store.specs.Lines.{IsExportOf, SaidBooking}
+use Rattle.line_text.specs.Lines.{IsExportOf, SaidBooking}
 use Rattle.journal_text.specs.Rooms.{fold_view}
 use Rattle.row_cuts.specs.Exports.{AreLinesOf}
 use Rattle.host_catalogue.specs.Opening.{export_name}

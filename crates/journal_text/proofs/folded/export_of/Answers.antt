@@ -1,5 +1,5 @@
 use Rattle.std.proofs.Common.{◌+◌, ◌^◌, ◌<◌, [], ◌∷◌, ◌++◌, arith, length, refl}
-use Rattle.cold_store.specs.Lines.{first_line}
+use Rattle.line_text.specs.Lines.{first_line}
 use Rattle.journal_text.proofs.Kept.{few_before, one_more_count, one_more_text}
 use Rattle.journal_text.proofs.folded.export_of.Goals as goal
 

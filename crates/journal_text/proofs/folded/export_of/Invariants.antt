@@ -1,5 +1,5 @@
 use Rattle.std.proofs.Common.{◌≡◌, [], ◌∷◌, ◌++◌, flat_map, length, take, ◌≤◌}
-use Rattle.cold_store.specs.Lines.{first_line}
+use Rattle.line_text.specs.Lines.{first_line}
 use Rattle.journal_text.specs.Rooms.{kept}
 use Rattle.journal_text.proofs.folded.export_of.Given as goal
 

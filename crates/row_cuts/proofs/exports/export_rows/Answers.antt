@@ -1,6 +1,6 @@
 use Rattle.std.proofs.Common.{◌∙◌, ap, length, map}
 use Rattle.std.proofs.lemmas.List.{length-map}
-use Rattle.cold_store.specs.Lines.{booking_line, first_line, last_line}
+use Rattle.line_text.specs.Lines.{booking_line, first_line, last_line}
 use Rattle.row_cuts.proofs.Ends.{count_is, export_within}
 use Rattle.row_cuts.proofs.exports.export_rows.Goals as goal
 

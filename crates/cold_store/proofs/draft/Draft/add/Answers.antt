@@ -1,7 +1,7 @@
 -- The line is noted, and then it is wrong behind a wrong one, the first wrong one, or right.
 use Rattle.std.proofs.Common.{◌≡◌, ℕ, rules, true, Option, Some, None, IfSome, All, refl, sym, ap, ◌∙◌, subst}
 use Rattle.leg_masks.specs.Interval.{PlacedSpan as Item}
-use Rattle.cold_store.specs.declared.bookings.Head.{Head}
+use Rattle.line_text.specs.declared.heads.Head.{Head}
 use Rattle.cold_store.specs.Drafts.{DraftView, IsPlaceOf, IsRightLine, noted, with_line}
 use Rattle.cold_store.specs.Reads.{LineView}
 use Rattle.cold_store.proofs.AddsLine.{adds_as, adds_first, adds_right, adds_wrong, may_places, some_or, some_spans}

@@ -1,7 +1,7 @@
 -- The first wrong line by itself, or the first successor without a line.
 use Rattle.std.proofs.Common.{◌≡◌, ℕ, ◌+◌, ◌<◌, true, false, List, length, get_or, Option, Some, IfSome, refl, sym, ap, ◌∙◌, subst, arith}
 use Rattle.cold_store.specs.declared.draft.Follows.{Follows}
-use Rattle.cold_store.specs.declared.ends.SaidRow.{SaidRow}
+use Rattle.line_text.specs.declared.ends.SaidRow.{SaidRow}
 use Rattle.cold_store.specs.Drafts.{DraftView, EachDraft, HasLineOf, IsBeforeWrong}
 use Rattle.cold_store.specs.Right.{IsFirstWrong}
 use Rattle.cold_store.proofs.FirstWrong.{AreChecked, checked-more, right_late, wrong_early, wrong_late, wrong_successor}

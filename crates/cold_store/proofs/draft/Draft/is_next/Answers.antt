@@ -1,7 +1,7 @@
 -- The last line has the greatest row.
 use Rattle.std.proofs.Common.{◌≡◌, ℕ, ◌<◌, ◌↔◌, List, IsTrue, nat_lt, refl, sym, ap, ◌∙◌, subst, lt-ltb}
 use Rattle.std.proofs.lemmas.Bool.{ltb-true}
-use Rattle.cold_store.specs.declared.ends.SaidRow.{SaidRow}
+use Rattle.line_text.specs.declared.ends.SaidRow.{SaidRow}
 use Rattle.cold_store.specs.Drafts.{DraftView, IsNextRow}
 use Rattle.cold_store.proofs.LastLine.{next_by_last}
 use Rattle.cold_store.proofs.draft.Draft.is_next.Goals as goal

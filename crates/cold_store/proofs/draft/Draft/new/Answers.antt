@@ -1,7 +1,7 @@
 -- All words are 0, and there is no line.
 use Rattle.std.proofs.Common.{◌≡◌, ℕ, ◌+◌, ◌*◌, rules, List, [], length, replicate, Option, None, refl, sym, ap, ◌∙◌, subst}
 use Rattle.cold_store.specs.declared.draft.Follows.{Follows}
-use Rattle.cold_store.specs.declared.ends.SaidRow.{SaidRow}
+use Rattle.line_text.specs.declared.ends.SaidRow.{SaidRow}
 use Rattle.cold_store.proofs.Empty.{empty-draft}
 use Rattle.cold_store.proofs.draft.Draft.new.Goals as goal
 

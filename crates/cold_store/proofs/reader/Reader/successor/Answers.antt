@@ -1,5 +1,0 @@
-use Rattle.cold_store.proofs.NoSuccessor.{no_successor}
-use Rattle.cold_store.proofs.reader.Reader.successor.Goals as goal
-
-pub returns-then-eat : goal.returns-then-eat
-returns-then-eat c = no_successor c.if-eat.ensures
