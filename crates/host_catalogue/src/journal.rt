@@ -11,6 +11,7 @@ ghost use Rattle.host_catalogue.specs.declared.journal.RecoverFault.TheVariants.
 use crate::file::{File, LoadFault, fetch_text};
 use crate::load::load_catalogue;
 use crate::opening::import_text;
+use crate::prints::print_of;
 use catalogue_contents::Catalogue;
 use claim_rule::{Books, Desk};
 use cold_store::ImportFault;
