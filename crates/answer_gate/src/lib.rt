@@ -15,8 +15,8 @@
 //!
 //! No clause of a `Gate` can say what a call did to the value under its lock. That its calls make just those of
 //! `State`, and that whoever sleeps here is woken, is read and tested. What follows of such calls, in whatever order,
-//! `host_journal` says. Nothing changes while a cut is taken. And where the cut that an answer waits for is kept, the
-//! journal has a cut whose looks began after all that the answer tells, but for looks.
+//! `host_journal` says, with its premises. Nothing changes while a cut is taken. And where the cut that an answer waits
+//! for is kept, the journal has a cut whose looks began after all that the answer tells, but for looks.
 #![tactic(auto)]
 
 mod clock;

@@ -12,7 +12,8 @@ use std::alloc::{AllocError, Global};
 use train_runs::{Run, Runs, Stop};
 
 /// The print of what the numbers of places mean: the runs in order, with their trains and the stations where they stop,
-/// and the places in order, each with its run, coach, number and class. Keys, fares, terms and times aren't in it.
+/// and the places in order, each with its run, coach, number and class. Keys, fares, terms and times aren't in it. It
+/// is the SHA-256 of a text with a line for each run and for each place (`specs/Prints`).
 pub fn print_of(alloc: Global, catalogue: &Catalogue) -> Result<Sum, AllocError>
     ensures { IfOk result (λ sum. sum.digits ≡ print_in catalogue.now) }
 {

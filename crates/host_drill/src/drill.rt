@@ -154,8 +154,9 @@ fn drill<R: Threads + Sync, K: Sink>(
 /// | 4 | the output failed in this call |
 /// | 5 | there was no memory for some part of it |
 ///
-/// Each has the note of its end, and a failing note changes no status. A device that has failed as often as is counted
-/// may have failed before this call. Threads are started for the connections, and all are joined.
+/// That there was no memory at status 5 no clause says. Each has the note of its end, and a failing note changes no
+/// status. A device that has failed as often as is counted may have failed before this call. Threads are started for
+/// the connections, and all are joined.
 pub fn run_drill<R: Threads + Sync, K: Sink, E: Sink>(
     rt: &R,
     alloc: Global,

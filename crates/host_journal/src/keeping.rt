@@ -105,8 +105,9 @@ struct Found {
     lines: Lines,
 }
 
-/// The books of a catalogue with the bookings that the journal of the words leaves; where it isn't there, with those of
-/// the export that the words name, or with none. And the journal's log, which has begun anew.
+/// The books of a catalogue with the bookings that this journal leaves, which is to be opened by the words' name; where
+/// it isn't there, with those of the export that the words name, or with none. And the journal's log, which has begun
+/// anew.
 pub fn open_journal<F: Shelf, J: Journal + Drop>(
     alloc: Global,
     shelf: &mut F,

@@ -96,7 +96,8 @@ fn replay<F: Shelf, S: Source, K: Sink>(
 /// | 5 | there was no memory to begin with |
 /// | 6 | the input ended inside a request, or was refused |
 ///
-/// A device that has failed as often as is counted may have failed before this call.
+/// That there was no memory at status 5 no clause says. A device that has failed as often as is counted may have failed
+/// before this call.
 pub fn run_replay<F: Shelf, S: Source, K: Sink, E: Sink>(
     alloc: Global,
     words: &[String],

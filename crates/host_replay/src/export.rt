@@ -163,7 +163,8 @@ fn export<F: Shelf, S: Source, K: Sink>(
 /// | 5 | there was no memory to begin with, for an answer, or for the export |
 /// | 6 | the input ended inside a request, or was refused, and no answer was that there is no memory |
 ///
-/// A device that has failed as often as is counted may have failed before this call.
+/// That there was no memory at status 5 no clause says. A device that has failed as often as is counted may have failed
+/// before this call.
 pub fn run_export<F: Shelf, S: Source, K: Sink, E: Sink>(
     alloc: Global,
     words: &[String],

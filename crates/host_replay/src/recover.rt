@@ -59,7 +59,8 @@ fn recover<F: Shelf, K: Sink>(
 /// | 4 | the output failed in this call |
 /// | 5 | there was no memory for the texts, the fold or the books |
 ///
-/// A device that has failed as often as is counted may have failed before this call.
+/// That there was no memory at status 5 no clause says. A device that has failed as often as is counted may have failed
+/// before this call.
 pub fn run_recover<F: Shelf, K: Sink, E: Sink>(
     alloc: Global,
     words: &[String],

@@ -82,7 +82,8 @@ fn settle<F: Shelf, K: Sink>(
 /// | 4 | the output failed in this call |
 /// | 5 | there was no memory for the books or for the table |
 ///
-/// A device that has failed as often as is counted may have failed before this call.
+/// That there was no memory at status 5 no clause says. A device that has failed as often as is counted may have failed
+/// before this call.
 pub fn run_settle<F: Shelf, K: Sink, E: Sink>(
     alloc: Global,
     words: &[String],

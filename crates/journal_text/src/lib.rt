@@ -5,7 +5,8 @@
 //! of the cut before it, and a sum of its own. The last line of each row is what the row is.
 //!
 //! It knows no file and no command, and of a line only its row. `specs/Texts` has the form of a text, `Folds` what its
-//! fold is, `Faults` the cause of each fault; `laws::cuts_are_folded_back` says that what was written is folded back.
+//! fold is, `Faults` the cause of each fault; `laws::cuts_are_folded_back` says that what was written of at most
+//! 262,144 rows, with its lines in their places, is folded back.
 #![tactic(auto)]
 
 mod cut;
