@@ -12,11 +12,15 @@
 #![tactic(auto)]
 
 mod gate;
+mod giving;
+mod meeting;
 mod member;
 mod running;
 mod worker;
 
 pub use gate::{Gate, Open};
+pub use giving::Gives;
+pub use meeting::run_crew;
 pub use member::Member;
 pub use running::run_workers;
 pub use worker::{TurnEnd, Worker};
