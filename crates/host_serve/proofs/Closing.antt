@@ -21,11 +21,12 @@ use Rattle.cold_store.specs.Tidy.{AreSucceeded, IsTidyWall}
 use Rattle.catalogue_contents.specs.Contents.{CatalogueView}
 use Rattle.host_words.specs.declared.serve.Serving.{Serving}
 use Rattle.host_serve.specs.declared.member.Post.{Post}
-use Rattle.host_serve.specs.Crews.{OnlyMet, AreReady, IsCrew, HasMetAll, HasRun, Held, of_member, sum_below}
+use Rattle.worker_pool.specs.Crews.{OnlyMet, IsCrew, HasMetAll, HasRun, Held, of_member, sum_below}
+use Rattle.host_serve.specs.Crews.{AreReady}
 use Rattle.host_serve.specs.Turns.{FitsBooks, HasEnded, DoesTurn, HasChain, LooksOn, Means, Readings, Stand, OneTurn, Ticks, Chain, Connection, Sweep, clock_for, clock_of, handed_of, part_of, readings_of, stand_of}
 use Rattle.host_serve.specs.Serve.{AllWorked, HasWorked, IsServedWall, Left, OnlyLooks}
 use Rattle.host_serve.proofs.Chaining.{all_turns, chain_on, clocked, only_looks, serving_chain, sweeping_chain, watching_chain}
-use Rattle.host_serve.proofs.Crewing.{begins, has_in, sum_more, sum_ones, sum_rest}
+use Rattle.worker_pool.proofs.Crewing.{begins, has_in, sum_more, sum_ones, sum_rest}
 use Rattle.host_serve.proofs.Tidying.{IsRested, never_worked, rested, tidy_wall}
 
 -- a layout in the limits of books

@@ -15,7 +15,7 @@ use Rattle.host_catalogue.specs.Opening.{IsOpened}
 use Rattle.host_catalogue.specs.declared.file.LoadFault.{LoadFault}
 use Rattle.host_catalogue.specs.declared.file.LoadFault.TheVariants as load
 use Rattle.rail_io.specs.Faults.{Rose}
-use Rattle.host_serve.specs.Crews.{IsFirst, OnlyMet}
+use Rattle.worker_pool.specs.Crews.{IsFirst, OnlyMet}
 use Rattle.host_serve.specs.Turns.{HasCatalogue}
 use Rattle.host_journal.specs.Ends.{lost_or, outcome_of_fault}
 use Rattle.host_journal.specs.Causes.{HasKeptCause}

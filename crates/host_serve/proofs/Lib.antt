@@ -3,7 +3,6 @@ pub mod Overs
 pub mod Crewing
 pub mod Closing
 pub mod Ending
-pub mod BooksEnded
 pub mod Tidying
 pub mod Telling
 pub mod Worded

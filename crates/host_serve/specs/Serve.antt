@@ -21,7 +21,7 @@ use Rattle.host_catalogue.specs.Files.{Files}
 use Rattle.host_catalogue.specs.Opening.{Fails, HasBooks, IsRefusedFile, LacksBooks}
 use Rattle.host_words.specs.Commands.{IsFor}
 use Rattle.host_words.specs.declared.command.CommandName.TheVariants as command
-use Rattle.host_serve.specs.Crews.{OnlyMet, sum_below}
+use Rattle.worker_pool.specs.Crews.{OnlyMet, sum_below}
 use Rattle.host_serve.specs.Turns.{Asks, Readings, Stand, OneTurn, Chain, Connection, HandedBy, Sweep, TickingBy}
 use Rattle.host_serve.specs.Turns.{clock_for}
 use Rattle.host_serve.specs.declared.devices.Devices.{Devices}

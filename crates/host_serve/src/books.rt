@@ -11,7 +11,7 @@ ghost use Rattle.claim_rule.specs.Walls.{Finishes};
 ghost use Rattle.cold_store.specs.Tidy.{AreSucceeded};
 ghost use Rattle.worker_pool.specs.Turns.{KeepsDesk};
 ghost use Rattle.host_serve.specs.declared.shared_listener.ListenerEnd.TheVariants as end;
-ghost use Rattle.host_serve.specs.Crews.{IsCrew, IsFirst, HasRun};
+ghost use Rattle.worker_pool.specs.Crews.{IsFirst};
 ghost use Rattle.host_serve.specs.Over.{EndsOver};
 ghost use Rattle.host_serve.specs.Serve.{BooksEnd, heard, left_of};
 ghost use Rattle.host_serve.specs.Turns.{HasCatalogue, Chain, Connection};
@@ -19,9 +19,7 @@ ghost use Rattle.host_serve.specs.Turns.{HasCatalogue, Chain, Connection};
 use crate::crew::{Crewed, Means, crew_of};
 use crate::devices::Devices;
 use crate::draining::drain_listener;
-use crate::giving::Gives;
 use crate::letting::Dropping;
-use crate::meeting::meet_others;
 use crate::member::Common;
 use crate::shared_listener::{Ended, ListenerEnd, Named, SharedListener};
 use crate::streams::Door;
@@ -32,9 +30,9 @@ use host_journal::{BooksOutcome, Opened, Watcher};
 use rail_io::{Clock, Ticker};
 use rail_service::Listener;
 use std::sync::Wait;
-use std::sync::ledger::{Blank, Ledger, Share};
+use std::sync::ledger::Blank;
 use std::thread::Threads;
-use worker_pool::{Member, Open, run_workers};
+use worker_pool::{Member, run_crew};
 
 /// How it ended, and what is left of it.
 pub struct Run<O, L> {
@@ -58,26 +56,6 @@ impl<O, L> Run<O, L> {
             wall: None,
         }
     }
-}
-
-/// Runs a crew until its members have ended, joins the desks of all but the first, with what those had counted, and
-/// hands that one back.
-fn run_crew<R: Threads + Wait + Sync, N: Ledger, W: Gives<N> + Send + Drop>(
-    rt: &R,
-    books: &Books,
-    first: &mut Desk,
-    mut crew: Vec<Member<W>>,
-    all: &mut Share<N>,
-) -> Member<W>
-    requires some { 0 < length crew.items }
-    requires crew { IsCrew W.fits books.now crew.items }
-    requires first { IsFirst books.now (length crew.items) first.old }
-    ensures run { HasRun W.fits W.does W.ended W.parts W.amount books.now crew.items
-        (record { parts = all.old.parts; amount = all.old.amount })
-        (record { parts = all.new.parts; amount = all.new.amount }) first.new result }
-{
-    run_workers(rt, books, crew.as_mut_slice(), &Open);
-    meet_others(books, first, crew, all)
 }
 
 /// Serves what is left of the listener's streams at the member's desk, where the listener hasn't ended: whether as many

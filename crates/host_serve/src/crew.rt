@@ -2,7 +2,8 @@
 ghost use Rattle.std.specs.Prelude.{◌≡◌, ◌<◌, ◌≤◌, ◌+◌, [], length, map, vec_capacity};
 ghost use Rattle.claim_rule.specs.Desks.{IsOf};
 ghost use Rattle.claim_rule.specs.Out.{IsTidy};
-ghost use Rattle.host_serve.specs.Crews.{AreGated, AreReady, Filling, IsCrew, IsFirst};
+ghost use Rattle.worker_pool.specs.Crews.{IsCrew, IsFirst};
+ghost use Rattle.host_serve.specs.Crews.{AreGated, AreReady, Filling};
 ghost use Rattle.host_serve.specs.Turns.{FitsBooks, HasCatalogue, gated};
 
 use crate::member::{Common, Post};

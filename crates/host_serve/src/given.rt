@@ -9,7 +9,7 @@ ghost use Rattle.host_words.specs.Said.{said_in};
 ghost use Rattle.host_words.specs.Serve.{IsInRange};
 ghost use Rattle.host_catalogue.specs.Files.{HasCause, OfCounts};
 ghost use Rattle.host_catalogue.specs.Opening.{Fails, HasBooks};
-ghost use Rattle.host_serve.specs.Crews.{IsFirst};
+ghost use Rattle.worker_pool.specs.Crews.{IsFirst};
 ghost use Rattle.host_journal.specs.Causes.{HasKeptCause, HasShelfCause};
 ghost use Rattle.host_serve.specs.Kept.{ListensTo, ServesBooks, ServesKept, sources_of};
 ghost use Rattle.host_serve.specs.Serve.{Ends, heard, left_of, some_count};

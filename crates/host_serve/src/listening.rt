@@ -3,7 +3,7 @@ ghost use Rattle.std.specs.Prelude.{◌≡◌, ◌≤◌, length};
 ghost use Rattle.cold_store.specs.Tidy.{AreSucceeded};
 ghost use Rattle.host_words.specs.Limits.{clock_count};
 ghost use Rattle.host_words.specs.Serve.{IsInRange};
-ghost use Rattle.host_serve.specs.Crews.{IsFirst};
+ghost use Rattle.worker_pool.specs.Crews.{IsFirst};
 ghost use Rattle.host_serve.specs.Kept.{ListensTo};
 ghost use Rattle.host_serve.specs.Serve.{heard, left_of};
 ghost use Rattle.host_serve.specs.Turns.{HasCatalogue};

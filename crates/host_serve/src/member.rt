@@ -1,5 +1,4 @@
 // What members do.
-use crate::giving::Gives;
 use crate::serving::Server;
 use crate::shared_listener::Named;
 use crate::streams::{LockedStreams, Streams};
@@ -15,7 +14,7 @@ use rail_service::Listener;
 use std::alloc::Global;
 use std::sync::Wait;
 use std::sync::ledger::Share;
-use worker_pool::{TurnEnd, Worker};
+use worker_pool::{Gives, TurnEnd, Worker};
 
 /// What all members share: memory, the catalogue, the numbers of the words, the gate, and what is told of the books.
 #[derive(Clone, Copy)]

@@ -14,7 +14,7 @@ ghost use Rattle.host_words.specs.Serve.{IsInRange, ServeView};
 ghost use Rattle.host_words.specs.declared.fault.WordsFault.TheVariants as words_fault;
 ghost use Rattle.host_catalogue.specs.Files.{HasCause};
 ghost use Rattle.host_catalogue.specs.Opening.{Fails, HasBooks, HasNoBooks};
-ghost use Rattle.host_serve.specs.Crews.{IsFirst};
+ghost use Rattle.worker_pool.specs.Crews.{IsFirst};
 ghost use Rattle.host_journal.specs.Ends.{status_of_serve};
 ghost use Rattle.host_journal.specs.Causes.{HasShelfCause};
 ghost use Rattle.host_serve.specs.Serve.{Ends, IsExporting, IsNoServe, IsOfRefusedText, IsOnlyLimited};

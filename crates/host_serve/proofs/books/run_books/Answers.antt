@@ -8,7 +8,7 @@ use Rattle.rail_service.specs.Listeners.{Handing, IsGiven}
 use Rattle.host_journal.specs.declared.end.BooksOutcome.{BooksOutcome}
 use Rattle.host_serve.specs.Serve.{BooksEnd, IsServedWall, Left}
 use Rattle.host_serve.proofs.Chaining.{until_asks}
-use Rattle.host_serve.proofs.Crewing.{complete, one_more}
+use Rattle.worker_pool.proofs.Crewing.{complete, one_more}
 use Rattle.host_serve.specs.Turns.{Asks, FitsBooks, TicksUntil, gated}
 use Rattle.host_serve.proofs.Closing.{served_wall, all_looked, all_parts, all_rested, all_worked, has_clock}
 use Rattle.host_serve.proofs.books.run_books.Goals as goal

@@ -1,10 +1,12 @@
 use Rattle.std.proofs.Common.{◌≡◌, ◌∙◌, ◌+◌, ◌++◌, ◌∷◌, [], ℕ, length, map, refl, sym, subst, ap, arith, rules, append-nil}
 use mathlib.Core.List.{IsPrefix}
 use Rattle.std.proofs.lemmas.List.{length-append}
-use Rattle.host_serve.specs.Crews.{AreGated, AreReady, IsCrew, IsFirst}
+use Rattle.worker_pool.specs.Crews.{IsCrew, IsFirst}
+use Rattle.host_serve.specs.Crews.{AreGated, AreReady}
 use Rattle.claim_rule.specs.Rule.{BooksView}
 use Rattle.host_serve.specs.Turns.{FitsBooks, HasCatalogue, gated}
-use Rattle.host_serve.proofs.Crewing.{gated_more, joined, parted_first, parted_desk, parted_empty, popped_clock, ready_more, shorter}
+use Rattle.worker_pool.proofs.Crewing.{joined, parted_first, parted_desk, parted_empty}
+use Rattle.host_serve.proofs.Crewing.{gated_more, popped_clock, ready_more, shorter}
 use Rattle.host_serve.proofs.crew.crew_of.Goals as goal
 
 pub loop-number-init : goal.loop-number-init

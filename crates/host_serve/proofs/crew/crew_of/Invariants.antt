@@ -1,6 +1,7 @@
 use Rattle.std.proofs.Common.{◌≡◌, ◌≤◌, ◌+◌, length, map, vec_len, vec_capacity}
 use mathlib.Core.List.{IsPrefix}
-use Rattle.host_serve.specs.Crews.{AreGated, AreReady, IsCrew, IsFirst}
+use Rattle.worker_pool.specs.Crews.{IsCrew, IsFirst}
+use Rattle.host_serve.specs.Crews.{AreGated, AreReady}
 use Rattle.host_serve.specs.Turns.{FitsBooks, gated}
 use Rattle.host_serve.proofs.crew.crew_of.Given as goal
 

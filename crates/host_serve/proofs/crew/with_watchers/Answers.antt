@@ -1,8 +1,9 @@
 use Rattle.std.proofs.Common.{◌≡◌, ◌∙◌, ◌+◌, ◌++◌, ◌∷◌, [], ℕ, length, sym, subst, ap, arith, rules}
 use Rattle.std.proofs.lemmas.List.{length-append}
-use Rattle.host_serve.specs.Crews.{IsCrew, IsFirst}
+use Rattle.worker_pool.specs.Crews.{IsCrew, IsFirst}
 use Rattle.host_serve.specs.Turns.{FitsBooks, gated}
-use Rattle.host_serve.proofs.Crewing.{gated_more, joined, parted_first, parted_desk, parted_empty, ready_more}
+use Rattle.worker_pool.proofs.Crewing.{joined, parted_first, parted_desk, parted_empty}
+use Rattle.host_serve.proofs.Crewing.{gated_more, ready_more}
 use Rattle.host_serve.proofs.crew.with_watchers.Goals as goal
 
 pub loop-watcher-preserved : goal.loop-watcher-preserved

@@ -1,5 +1,6 @@
 use Rattle.std.proofs.Common.{◌≡◌, ◌≤◌, ◌<◌, ◌+◌, length, vec_capacity}
-use Rattle.host_serve.specs.Crews.{AreGated, AreReady, Filling, IsCrew, IsFirst}
+use Rattle.worker_pool.specs.Crews.{IsCrew, IsFirst}
+use Rattle.host_serve.specs.Crews.{AreGated, AreReady, Filling}
 use Rattle.host_serve.specs.Turns.{FitsBooks, gated}
 use Rattle.host_serve.proofs.crew.with_watchers.Given as goal
 

@@ -2,7 +2,7 @@ use Rattle.std.proofs.Common.{List, ap, sym, subst}
 use Rattle.std.proofs.lemmas.Result.{IfOk-weaker}
 use Rattle.history_model.specs.Booking.{Layout}
 use Rattle.history_model.specs.declared.entry.Entry.{Entry}
-use Rattle.host_serve.specs.Crews.{OnlyMet}
+use Rattle.worker_pool.specs.Crews.{OnlyMet}
 use Rattle.host_serve.proofs.given.open.Goals as goal
 
 pub returns-clause-books : goal.returns-clause-books

@@ -2,9 +2,9 @@ use Rattle.std.proofs.Common.{◌≡◌, ◌+◌, ◌++◌, ◌∷◌, [], List,
 use mathlib.Core.List.{IsPrefix}
 use Rattle.std.proofs.lemmas.List.{length-append}
 use Rattle.worker_pool.specs.declared.member.Member.{Member}
-use Rattle.host_serve.specs.Crews.{HasGiven, Held, IsMember, HasMetAll}
-use Rattle.host_serve.proofs.Crewing.{front_of, given_one, last_of, met_one, popped}
-use Rattle.host_serve.proofs.meeting.meet_others.Goals as goal
+use Rattle.worker_pool.specs.Crews.{HasGiven, Held, IsMember, HasMetAll}
+use Rattle.worker_pool.proofs.Crewing.{front_of, given_one, last_of, met_one, popped}
+use Rattle.worker_pool.proofs.meeting.meet_others.Goals as goal
 
 pub loop-crew-preserved : goal.loop-crew-preserved
 loop-crew-preserved g c =

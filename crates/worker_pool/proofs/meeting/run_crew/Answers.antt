@@ -3,9 +3,9 @@ use Rattle.claim_rule.specs.Desks.{IsOf}
 use Rattle.claim_rule.specs.Out.{IsTidy}
 use Rattle.worker_pool.specs.declared.member.Member.{Member}
 use Rattle.worker_pool.specs.Turns.{KeepsDesk, RunsToEnd}
-use Rattle.host_serve.specs.Crews.{HasGiven, IsCrew, IsMember, HasMetAll}
-use Rattle.host_serve.proofs.Crewing.{after_run, all_written, since}
-use Rattle.host_serve.proofs.books.run_crew.Goals as goal
+use Rattle.worker_pool.specs.Crews.{HasGiven, IsCrew, IsMember, HasMetAll}
+use Rattle.worker_pool.proofs.Crewing.{after_run, all_written, since}
+use Rattle.worker_pool.proofs.meeting.run_crew.Goals as goal
 
 pub returns : goal.returns
 returns g c =

@@ -1,8 +1,8 @@
 // What members were handed out, counted together.
 ghost use Rattle.std.specs.Prelude.{◌≡◌, ◌+◌, ℕ};
 
+use crate::worker::Worker;
 use std::sync::ledger::{Ledger, Share};
-use worker_pool::Worker;
 
 /// A worker with parts of a ledger.
 pub trait Gives<N: Ledger>: Worker {

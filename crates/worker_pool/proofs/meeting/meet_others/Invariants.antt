@@ -1,7 +1,7 @@
 use Rattle.std.proofs.Common.{◌<◌, length}
 use mathlib.Core.List.{IsPrefix}
-use Rattle.host_serve.specs.Crews.{HasGiven, HasMetAll}
-use Rattle.host_serve.proofs.meeting.meet_others.Given as goal
+use Rattle.worker_pool.specs.Crews.{HasGiven, HasMetAll}
+use Rattle.worker_pool.proofs.meeting.meet_others.Given as goal
 
 abbrev pub decreases-loop-crew : goal.decreases-loop-crew
 decreases-loop-crew g l = length l.crew.items
