@@ -10,10 +10,11 @@ user who may, hosts and load go before all else (`chrt -r 1`).
 --instructions counts instead, by `valgrind --tool=callgrind`, what a reservation takes that is made (201), and one that is refused (409), with
 one in flight. How often a host looks at its stream, and what else waits and spins, differs from run to run by more than the window takes. So
 what counts is taken function by function: what the function itself took in a run of 2,500 requests, less what it took in one of 500, by the
-2,000 between them. Three such pairs of runs are made without the window and three with it, and of each function the middle figure stands. A
-function of the program is left out where its figures without the window aren't all the same, and one of the C library also where those with it
-aren't. Those left out are the looks and what they call. The share is that of all functions' instructions, looks included. --each prints each
-function that takes more or less with the window. The program has to have its symbols.
+2,000 between them. Three such pairs of runs are made without the window and three with it, by turns, and of each function the middle figure
+stands. A function of the program is left out where its figures without the window differ by an instruction, and one of the C library where its
+figures differ at all, but for the clock's. Those left out are the looks and what they call. The share is that of all functions' instructions,
+looks included. --each prints each function that takes more or less with the window. The program has to have its symbols. What is left to chance
+is the time itself: under callgrind a reservation takes some 0.1 ms and not some microseconds, and a longer time takes more steps to find its bound.
 """
 import argparse
 import collections

@@ -112,6 +112,14 @@ fn new_row() -> Row {
     array::from_fn(|_| Tally::new())
 }
 
+// One more of the route of this number.
+#[inline(always)]
+fn raise(row: &Row, number: usize)
+    requires { number < 13 }
+{
+    row[number].add(1);
+}
+
 /// What is counted of the requests that a clock hears of.
 #[derive(Drop)]
 pub struct RouteCounts {
@@ -145,13 +153,13 @@ impl RouteCounts {
         self.spent[number].add(nanoseconds);
         // Most are within the first bounds. With the bound's number written out, nothing is left to do but to count.
         if nanoseconds <= LIMITS[0] {
-            self.within[0][number].add(1);
+            raise(&self.within[0], number);
         } else if nanoseconds <= LIMITS[1] {
-            self.within[1][number].add(1);
+            raise(&self.within[1], number);
         } else if nanoseconds <= LIMITS[2] {
-            self.within[2][number].add(1);
+            raise(&self.within[2], number);
         } else {
-            self.within[bucket_of(nanoseconds)][number].add(1);
+            raise(&self.within[bucket_of(nanoseconds)], number);
         }
     }
 
