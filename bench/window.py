@@ -1,14 +1,23 @@
 #!/usr/bin/env python3
 """Measures what the operator's window costs a reservation: instructions and processor time of a host with `--window` and without.
 
-  bench/window.py [--program PATH] [--port N] [--rounds N] [--requests N] [--instructions]
+  bench/window.py [--program PATH] [--port N] [--rounds N] [--requests N] [--instructions [--each]]
 
 One connection and one worker. The processor time is the host's own, the system's part of it included: each round starts a host without the
 window and one with it, and has each answer N reservations (20,000), first with one in flight and then with 16. `load.c` sends them. Run as a
-user who may, hosts and load go before all else (`chrt -r 1`). --instructions counts instead, by `valgrind --tool=callgrind`, what a reservation
-takes that is made (201), and one that is refused (409).
+user who may, hosts and load go before all else (`chrt -r 1`).
+
+--instructions counts instead, by `valgrind --tool=callgrind`, what a reservation takes that is made (201), and one that is refused (409), with
+one in flight. How often a host looks at its stream, and what else waits and spins, differs from run to run by more than the window takes. So
+what counts is taken function by function: what the function itself took in a run of 2,500 requests, less what it took in one of 500, by the
+2,000 between them. Three such pairs of runs are made without the window and three with it, by turns, and of each function the middle figure
+stands. A function of the program is left out where its figures without the window differ by an instruction, and one of the C library where its
+figures differ at all, but for the clock's. Those left out are the looks and what they call. The share is that of all functions' instructions,
+looks included. --each prints each function that takes more or less with the window. The program has to have its symbols. What is left to chance
+is the time itself: under callgrind a reservation takes some 0.1 ms and not some microseconds, and a longer time takes more steps to find its bound.
 """
 import argparse
+import collections
 import contextlib
 import glob
 import pathlib
@@ -26,6 +35,8 @@ from replay import PROGRAM, catalogue, request, reservation
 
 HERE = pathlib.Path(__file__).resolve().parent
 FEW, MANY = 500, 2_500
+COUNTED = 3
+STEADY = 0.05
 SECONDS = 120
 
 
@@ -113,19 +124,64 @@ def answered(port, requests, status):
                 sys.exit(f"window: an answer {head[9:12].decode()}")
 
 
+def functions(path):
+    """Instructions that each function took itself, by its name, from what callgrind wrote."""
+    taken, current, of_call = collections.Counter(), None, False
+    for line in open(path):
+        if line.startswith("fn="):
+            current = line[3:].strip()
+        elif line.startswith("calls="):
+            of_call = True
+        elif line[0].isdigit() and current:
+            if not of_call:
+                taken[current] += int(line.split()[1])
+            of_call = False
+    return taken
+
+
 def counted(given, folder, window, requests, status):
-    """Instructions of a host that answers these."""
-    before = ["valgrind", "--tool=callgrind", f"--callgrind-out-file={folder / 'counts'}"]
-    with serving(before, given.program, folder, given.port, window) as host:
+    """Instructions by function of a host that answers these."""
+    kept = folder / "counts"
+    words = ["--compress-strings=no", "--compress-pos=no", f"--callgrind-out-file={kept}"]
+    with serving(["valgrind", "--tool=callgrind", *words], given.program, folder, given.port, window) as host:
         answered(given.port, requests, status)
-    return int(re.search(r"Collected : (\d+)", host.stderr.read()).group(1))
+    host.stderr.read()
+    return functions(kept)
+
+
+def per_request(given, folder, window, requests, status):
+    """What each function takes of a request."""
+    few, many = (counted(given, folder, window, requests(number), status) for number in (FEW, MANY))
+    return {name: (many[name] - few[name]) / (MANY - FEW) for name in few.keys() | many.keys()}
+
+
+def spread(figures):
+    return max(figures) - min(figures)
+
+
+def compared(without, with_it):
+    """Of each function that counts: its name, what it takes without the window, and what it takes more with it."""
+    for name in set().union(*without, *with_it):
+        off, on = ([run.get(name, 0) for run in runs] for runs in (without, with_it))
+        ours = "::" in name or name.startswith("clock_gettime")
+        if spread(off) < 1 if ours else spread(off + on) < STEADY:
+            yield name, statistics.median(off), statistics.median(on) - statistics.median(off)
 
 
 def compare_counts(given, folder):
     for name, requests, status in (("made", made, b"201"), ("refused", refused, b"409")):
-        few, many = ([counted(given, folder, window, requests(number), status) for window in (False, True)] for number in (FEW, MANY))
-        without, with_it = ((b - a) / (MANY - FEW) for a, b in zip(few, many))
-        print(f"{name}: {without:,.0f} instructions without it, {with_it - without:,.0f} more with it ({100 * (with_it / without - 1):.1f} %)")
+        runs = {False: [], True: []}
+        for _ in range(COUNTED):
+            for window in runs:
+                runs[window].append(per_request(given, folder, window, requests, status))
+        rows = sorted(compared(runs[False], runs[True]), key=lambda row: -abs(row[2]))
+        more = sum(row[2] for row in rows)
+        least, greatest = (find(sum(run.values()) for run in runs[False]) for find in (min, max))
+        print(f"{name}: {least:,.0f} to {greatest:,.0f} instructions without the window, of which {sum(row[1] for row in rows):,.0f} are compared;"
+              f" {more:,.1f} more with it ({100 * more / least:.2f} %)")
+        for function, off, difference in rows if given.each else ():
+            if abs(difference) >= STEADY:
+                print(f"  {difference:7.2f} more than {off:8.2f}  {function}")
 
 
 def main():
@@ -135,6 +191,7 @@ def main():
     words.add_argument("--rounds", type=int, default=20)
     words.add_argument("--requests", type=int, default=20_000)
     words.add_argument("--instructions", action="store_true")
+    words.add_argument("--each", action="store_true", help="with --instructions: each function that takes more or less with the window")
     given = words.parse_args()
     given.first = shutil.which("chrt") and subprocess.run(["chrt", "-r", "1", "true"], capture_output=True).returncode == 0
     with tempfile.TemporaryDirectory() as name:

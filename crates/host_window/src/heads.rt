@@ -2,7 +2,7 @@
 ghost use Rattle.std.specs.Prelude.{◌≡◌, ◌<◌, ◌+◌, ◌*◌, ◌++◌, slice_index};
 ghost use Rattle.host_window.specs.Counted.{label_in, number_in};
 
-use crate::labels::number_of_status;
+use crate::labels::{CREATED, number_of_status};
 
 /// How many values a byte has.
 const BYTE: u32 = 256;
@@ -33,7 +33,6 @@ fn byte_at(first: &[u8], second: &[u8], place: usize) -> u8
 }
 
 // The number of the label of any answer.
-#[inline(never)]
 fn label_by_digits(first: &[u8], second: &[u8]) -> usize
     ensures { result ≡ label_in (first.now ++ second.now) }
 {
@@ -53,8 +52,22 @@ fn joined(ones: u8, twos: u8, threes: u8, fours: u8) -> u32
         + BYTE * (u32::from(twos) + BYTE * (u32::from(threes) + BYTE * u32::from(fours)))
 }
 
-/// The number of the label of an answer that begins with these two pieces. Most are 201 and 200, so that these are
-/// looked for first.
+// The number of the label of any answer. Most of those that get here are 200, so that it is looked for first.
+#[inline(never)]
+fn label_of_other(first: &[u8], second: &[u8]) -> usize
+    ensures { result ≡ label_in (first.now ++ second.now) }
+{
+    if first.len() >= 12 {
+        let status = joined(first[8], first[9], first[10], first[11]);
+        if status == joined(b' ', b'2', b'0', b'0') {
+            return 0;
+        }
+    }
+    label_by_digits(first, second)
+}
+
+/// The number of the label of an answer that begins with these two pieces. 201 is told at once. All others are told
+/// apart in a call, so that no test of theirs stands before it.
 #[inline(always)]
 pub(crate) fn label_of(first: &[u8], second: &[u8]) -> usize
     ensures { result ≡ label_in (first.now ++ second.now) }
@@ -62,11 +75,8 @@ pub(crate) fn label_of(first: &[u8], second: &[u8]) -> usize
     if first.len() >= 12 {
         let status = joined(first[8], first[9], first[10], first[11]);
         if status == joined(b' ', b'2', b'0', b'1') {
-            return 1;
-        }
-        if status == joined(b' ', b'2', b'0', b'0') {
-            return 0;
+            return CREATED;
         }
     }
-    label_by_digits(first, second)
+    label_of_other(first, second)
 }

@@ -40,6 +40,9 @@ pub(crate) const STATUSES: [&[u8]; 16] = [
     b"{status=\"other\"}",
 ];
 
+/// The number of the label of 201.
+pub(crate) const CREATED: usize = 1;
+
 /// From this label on an answer is a problem.
 pub(crate) const FIRST_PROBLEM: usize = 2;
 

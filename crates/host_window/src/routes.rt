@@ -94,6 +94,7 @@ fn number_of(route: RouteName) -> usize
 }
 
 // The number of the least bound that the time doesn't exceed.
+#[inline(never)]
 fn bucket_of(nanoseconds: u64) -> usize
     ensures { result < 15 }
 {
@@ -103,37 +104,39 @@ fn bucket_of(nanoseconds: u64) -> usize
     }
 }
 
-/// What is counted of the requests of one route that were carried out.
-#[derive(Drop)]
-struct RouteRow {
-    spent: Tally,
-    /// The times within each bound and not within the one before.
-    within: [Tally; 15],
+/// One count for each route.
+type Row = [Tally; ROUTES.len()];
+
+// Nothing counted yet.
+fn new_row() -> Row {
+    array::from_fn(|_| Tally::new())
 }
 
-impl RouteRow {
-    // Nothing counted yet.
-    fn new() -> RouteRow {
-        RouteRow {
-            spent: Tally::new(),
-            within: array::from_fn(|_| Tally::new()),
-        }
-    }
+// One more of the route of this number.
+#[inline(always)]
+fn raise(row: &Row, number: usize)
+    requires { number < 13 }
+{
+    row[number].add(1);
 }
 
 /// What is counted of the requests that a clock hears of.
 #[derive(Drop)]
 pub struct RouteCounts {
-    rows: [RouteRow; 13],
-    arrived: [Tally; 13],
+    arrived: Row,
+    /// The nanoseconds of those that were carried out.
+    spent: Row,
+    /// How many were carried out within each bound and not within the one before.
+    within: [Row; BOUNDS.len()],
 }
 
 impl RouteCounts {
     /// Nothing counted yet.
     pub(crate) fn new() -> RouteCounts {
         RouteCounts {
-            rows: array::from_fn(|_| RouteRow::new()),
-            arrived: array::from_fn(|_| Tally::new()),
+            arrived: new_row(),
+            spent: new_row(),
+            within: array::from_fn(|_| new_row()),
         }
     }
 
@@ -146,23 +149,37 @@ impl RouteCounts {
     /// A request was carried out in this time.
     #[inline(always)]
     pub(crate) fn note_done(&self, route: RouteName, nanoseconds: u64) {
-        let row = &self.rows[number_of(route)];
-        row.spent.add(nanoseconds);
-        row.within[bucket_of(nanoseconds)].add(1);
+        let number = number_of(route);
+        self.spent[number].add(nanoseconds);
+        // Most are within the first bounds. With the bound's number written out, nothing is left to do but to count.
+        if nanoseconds <= LIMITS[0] {
+            raise(&self.within[0], number);
+        } else if nanoseconds <= LIMITS[1] {
+            raise(&self.within[1], number);
+        } else if nanoseconds <= LIMITS[2] {
+            raise(&self.within[2], number);
+        } else {
+            raise(&self.within[bucket_of(nanoseconds)], number);
+        }
     }
 
     // The count that is meant, of the route of this number.
     fn read(&self, pick: Picks, number: usize) -> u64 {
-        let (Some(row), Some(arrived)) = (self.rows.get(number), self.arrived.get(number)) else {
+        let Some(row) = self.row(pick) else {
             return 0;
         };
+        match row.get(number) {
+            Some(count) => count.read(),
+            None => 0,
+        }
+    }
+
+    // The counts that are meant, one for each route.
+    fn row(&self, pick: Picks) -> Option<&Row> {
         match pick {
-            Picks::Arrived => arrived.read(),
-            Picks::Spent => row.spent.read(),
-            Picks::Within(bucket) => match row.within.get(bucket) {
-                Some(count) => count.read(),
-                None => 0,
-            },
+            Picks::Arrived => Some(&self.arrived),
+            Picks::Spent => Some(&self.spent),
+            Picks::Within(bucket) => self.within.get(bucket),
         }
     }
 }

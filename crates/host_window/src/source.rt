@@ -34,8 +34,21 @@ impl<'c, S: Source + Drop> CountingSource<'c, S> {
         let Some(counts) = self.counts else {
             return;
         };
+        if let Pulled::Got(count) = pulled {
+            counts.note_received(count);
+        } else {
+            self.note_end(pulled);
+        }
+    }
+
+    // Keeps what ended the connection: a read that gave nothing.
+    #[cold]
+    #[inline(never)]
+    fn note_end(&mut self, pulled: Pulled)
+        ensures { self.new.source ≡ self.old.source }
+    {
         match pulled {
-            Pulled::Got(count) => counts.note_received(count),
+            Pulled::Got(_) => {}
             Pulled::End => self.cause = Cause::Client,
             Pulled::Failed => self.cause = Cause::Fault,
         }
