@@ -1,5 +1,8 @@
 -- What a run of `serve` without a journal says of its devices.
-use Rattle.std.proofs.Common.{◌≡◌, ◌≤◌, ◌⊎◌, ◌∙◌, ℕ, List, None, arith, inl, inr, refl, subst, sym}
+use Rattle.std.proofs.Common.{◌≡◌, ◌≤◌, ◌⊎◌, ◌∙◌, ℕ, List, None, ap, arith, inl, inr, refl, subst, sym}
+use Rattle.std.proofs.lemmas.Bool.{eqb-false}
+use Rattle.std.specs.Prelude.{false}
+use Rattle.std.proofs.Math.Dec.{eqb}
 use Rattle.rail_io.specs.Faults.{Rose}
 use Rattle.host_catalogue.specs.Files.{Files}
 use Rattle.host_catalogue.specs.declared.file.LoadFault.TheVariants as load
@@ -9,6 +12,7 @@ use Rattle.host_journal.specs.Causes.{HasShelfCause}
 use Rattle.host_serve.specs.Serve.{Left, Runs}
 use Rattle.host_journal.specs.declared.end.ServeOutcome.{ServeOutcome}
 use Rattle.host_journal.specs.declared.end.ServeOutcome.TheVariants as end
+use Rattle.host_serve.specs.Telling.{IsTold}
 use Rattle.host_serve.proofs.Ending.{ends_without, missed, no_words, refused_wall, some_wall, stays, wall_missing, when_refused, without}
 use Rattle.host_serve.proofs.Telling.{rose_before, told_part, told_whole}
 use Rattle.plain_commands.specs.Devices.{Devices, IsUntouched, ShelfFailed, files_of}
@@ -18,35 +22,35 @@ module _ (words : List (List ℕ)) (files : Files) (left : Left) where
   -- status 3: the listener failed, or the shelf
   failed_by : (o : ServeOutcome) (failed fails missed misses : ℕ) → Runs words files left o → HasShelfCause o failed fails missed misses
       → status_of_serve o ≡ 3 → Rose left.faults_before left.faults_after ⊎ Rose failed fails
-  failed_by (end.NotLoaded (load.Missing f)) failed fails missed misses r cause three = absurd (omega (arith, three))
-  failed_by (end.NotLoaded (load.TooLarge f)) failed fails missed misses r cause three = absurd (omega (arith, three))
-  failed_by (end.NotLoaded (load.Refused fault)) failed fails missed misses r cause three = absurd (omega (arith, three))
-  failed_by (end.NotLoaded (load.RefusedExport fault)) failed fails missed misses r cause three = absurd (omega (arith, three))
+  failed_by (end.NotLoaded (load.Missing f)) failed fails missed misses r cause three = absurd (eqb-false _ _ refl three)
+  failed_by (end.NotLoaded (load.TooLarge f)) failed fails missed misses r cause three = absurd (eqb-false _ _ refl three)
+  failed_by (end.NotLoaded (load.Refused fault)) failed fails missed misses r cause three = absurd (eqb-false _ _ refl three)
+  failed_by (end.NotLoaded (load.RefusedExport fault)) failed fails missed misses r cause three = absurd (eqb-false _ _ refl three)
   failed_by (end.NotLoaded load.Failed) failed fails missed misses r cause three = inr cause
-  failed_by (end.NotLoaded load.NoMemory) failed fails missed misses r cause three = absurd (omega (arith, three))
+  failed_by (end.NotLoaded load.NoMemory) failed fails missed misses r cause three = absurd (eqb-false _ _ refl three)
   failed_by end.NotBound failed fails missed misses r cause three = inl r.2.1.rose
   failed_by end.AcceptFailed failed fails missed misses r cause three = inl r.2.0.rose
-  failed_by end.Refused failed fails missed misses r cause three = absurd (omega (arith, three))
-  failed_by end.NoMemory failed fails missed misses r cause three = absurd (omega (arith, three))
-  failed_by end.Served failed fails missed misses r cause three = absurd (omega (arith, three))
-  failed_by end.NoText failed fails missed misses r cause three = absurd (omega (arith, three))
-  failed_by end.Unwritten failed fails missed misses r cause three = absurd (omega (arith, three))
+  failed_by end.Refused failed fails missed misses r cause three = absurd (eqb-false _ _ refl three)
+  failed_by end.NoMemory failed fails missed misses r cause three = absurd (eqb-false _ _ refl three)
+  failed_by end.Served failed fails missed misses r cause three = absurd (eqb-false _ _ refl three)
+  failed_by end.NoText failed fails missed misses r cause three = absurd (eqb-false _ _ refl three)
+  failed_by end.Unwritten failed fails missed misses r cause three = absurd (eqb-false _ _ refl three)
 
   -- status 0: there is a wall
   walled : (o : ServeOutcome) → Runs words files left o → status_of_serve o ≡ 0 → left.wall ≡ None → ⊥
   walled end.Served r zero none = some_wall _ left.wall r.2.1.closed none
-  walled (end.NotLoaded (load.Missing f)) r zero none = absurd (omega (arith, zero))
-  walled (end.NotLoaded (load.TooLarge f)) r zero none = absurd (omega (arith, zero))
-  walled (end.NotLoaded (load.Refused fault)) r zero none = absurd (omega (arith, zero))
-  walled (end.NotLoaded (load.RefusedExport fault)) r zero none = absurd (omega (arith, zero))
-  walled (end.NotLoaded load.Failed) r zero none = absurd (omega (arith, zero))
-  walled (end.NotLoaded load.NoMemory) r zero none = absurd (omega (arith, zero))
-  walled end.NotBound r zero none = absurd (omega (arith, zero))
-  walled end.AcceptFailed r zero none = absurd (omega (arith, zero))
-  walled end.Refused r zero none = absurd (omega (arith, zero))
-  walled end.NoMemory r zero none = absurd (omega (arith, zero))
-  walled end.NoText r zero none = absurd (omega (arith, zero))
-  walled end.Unwritten r zero none = absurd (omega (arith, zero))
+  walled (end.NotLoaded (load.Missing f)) r zero none = eqb-false _ _ refl zero
+  walled (end.NotLoaded (load.TooLarge f)) r zero none = eqb-false _ _ refl zero
+  walled (end.NotLoaded (load.Refused fault)) r zero none = eqb-false _ _ refl zero
+  walled (end.NotLoaded (load.RefusedExport fault)) r zero none = eqb-false _ _ refl zero
+  walled (end.NotLoaded load.Failed) r zero none = eqb-false _ _ refl zero
+  walled (end.NotLoaded load.NoMemory) r zero none = eqb-false _ _ refl zero
+  walled end.NotBound r zero none = eqb-false _ _ refl zero
+  walled end.AcceptFailed r zero none = eqb-false _ _ refl zero
+  walled end.Refused r zero none = eqb-false _ _ refl zero
+  walled end.NoMemory r zero none = eqb-false _ _ refl zero
+  walled end.NoText r zero none = eqb-false _ _ refl zero
+  walled end.Unwritten r zero none = eqb-false _ _ refl zero
 
 -- at any other status the shelf didn't fail
 unfailed : (o : ServeOutcome) (failed fails missed misses : ℕ) → HasShelfCause o failed fails missed misses
@@ -107,3 +111,37 @@ module _ {F S K E : Type 0} (words : List (List ℕ)) (left : Left) (status : �
         unread = unread;
         unwritten = unwritten;
       }
+
+module _ {F S K E : Type 0} (words : List (List ℕ)) (left : Left) (status : ℕ) (d : Devices F S K E) (five : status ≡ 5) where
+  is_not : (n : ℕ) → eqb 5 n ≡ false → status ≡ n → ⊥
+  is_not n other is = eqb-false 5 n other (sym five ∙ is)
+
+  -- and so it ended where there was no memory to begin with
+  pub unclocked : left.wall ≡ None → left.after.handed ≡ 0 → left.faults_after ≡ left.faults_before
+      → IsTold words left.wall (noting d.notes) end.NoMemory → d.shelf.new ≡ d.shelf.old → d.input.new ≡ d.input.old
+      → d.output.new ≡ d.output.old → EndsServe words left status d
+  unclocked no_wall handed steady told unfetched unread unwritten = record {
+    outcome = end.NoMemory;
+    is = five;
+    ran = (no_wall, handed, steady);
+    told = told;
+    exported = λ zero asked. absurd (is_not 0 refl zero);
+    write_cause = λ four. absurd (is_not 4 refl four);
+    cause = ap d.shelf.faults unfetched;
+    from = record {
+      without = λ one. absurd (is_not 1 refl one);
+      no_books = λ files told said is none. inr (inr five);
+      missed = λ one. absurd (is_not 1 refl one);
+      read_cause = λ three. absurd (is_not 3 refl three);
+      shelf_steady = λ other. ap d.shelf.faults unfetched;
+      steady = λ other. steady;
+      never_falls = subst (λ (n : ℕ). left.faults_before ≤ n) (sym steady) (omega arith);
+      wall = λ zero none. absurd (is_not 0 refl zero);
+      no_wall = λ three none. absurd (is_not 3 refl three);
+      same = ap d.shelf.told unfetched;
+    };
+    refused = λ two. absurd (is_not 2 refl two);
+    refused_words = λ none. inr five;
+    unread = unread;
+    unwritten = unwritten;
+  }

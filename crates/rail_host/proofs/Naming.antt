@@ -1,5 +1,5 @@
 -- Words are for one command.
-use Rattle.std.proofs.Common.{◌≡◌, ◌∙◌, ◌*◌, ◌+◌, ℕ, List, ◌∷◌, Option, Some, refl, sym, ap}
+use Rattle.std.proofs.Common.{◌≡◌, ◌∙◌, ◌*◌, ◌+◌, ℕ, List, ◌∷◌, Option, Some, refl, sym, ap, subst}
 use Rattle.std.specs.Prelude.{◌==◌, if◌then◌else◌, slice_get}
 use Rattle.host_words.specs.Commands.{IsFor, name_of}
 use Rattle.host_words.specs.Tiny.{IsNoTiny}
@@ -12,6 +12,7 @@ use Rattle.host_replay.specs.Export.{IsNoExport}
 use Rattle.host_drill.specs.Ends.{IsNoDrill}
 use Rattle.host_serve.specs.Kept.{IsNoKeptServe}
 use Rattle.host_serve.specs.Serve.{IsNoServe}
+use Rattle.rail_host.specs.Commands.{IsNoCommand}
 
 -- the first and the third letter tell the names apart
 abbrev key : Option (List ℕ) → ℕ
@@ -37,32 +38,30 @@ pub one_command : (a b : CommandName) (words : List (List ℕ)) → IsFor a word
 one_command a b words one other =
     sym (named_at a) ∙ ap (λ (o : Option (List ℕ)). command_at (key o)) (sym one ∙ other) ∙ named_at b
 
--- words that aren't for a command aren't the words of it
+-- the words are none of this command's own
+abbrev pub NoneOf : CommandName → List (List ℕ) → Type 0
+NoneOf Tiny words = IsNoTiny words
+NoneOf Replay words = IsNoReplay words
+NoneOf Export words = IsNoExport words
+NoneOf Settle words = IsNoSettle words
+NoneOf Recover words = IsNoRecover words
+NoneOf Drill words = IsNoDrill words
+NoneOf Serve words = IsNoServe words × IsNoKeptServe words
+
 module _ (words : List (List ℕ)) where
-  pub no_tiny : (IsFor Tiny words → ⊥) → IsNoTiny words
-  no_tiny other legs places is = other (ap (λ (ws : List (List ℕ)). slice_get ws 0) is.2)
+  -- they're those of no command, where they're none of the command's own that they are for
+  pub no_command : ((a : CommandName) → IsFor a words → NoneOf a words) → IsNoCommand words
+  no_command none = record {
+    tiny = λ legs places is. none Tiny (ap (λ (ws : List (List ℕ)). slice_get ws 0) is.2) legs places is;
+    replay = λ said is. none Replay is.command said is;
+    export = λ said is. none Export is.command said is;
+    settle = λ catalogue export is. none Settle (ap (λ (ws : List (List ℕ)). slice_get ws 0) is) catalogue export is;
+    recover = λ catalogue journal is. none Recover (ap (λ (ws : List (List ℕ)). slice_get ws 0) is) catalogue journal is;
+    drill = λ said is. none Drill is.command said is;
+    serve = λ said is. (none Serve is.command).0 said is;
+    kept = λ said name is. (none Serve is.command).1 said name is;
+  }
 
-  pub no_replay : (IsFor Replay words → ⊥) → IsNoReplay words
-  no_replay other said is = other is.command
-
-  pub no_export : (IsFor Export words → ⊥) → IsNoExport words
-  no_export other said is = other is.command
-
-  pub no_settle : (IsFor Settle words → ⊥) → IsNoSettle words
-  no_settle other catalogue export is = other (ap (λ (ws : List (List ℕ)). slice_get ws 0) is)
-
-  pub no_recover : (IsFor Recover words → ⊥) → IsNoRecover words
-  no_recover other catalogue journal is = other (ap (λ (ws : List (List ℕ)). slice_get ws 0) is)
-
-  pub no_drill : (IsFor Drill words → ⊥) → IsNoDrill words
-  no_drill other said is = other is.command
-
-  pub no_serve : (IsFor Serve words → ⊥) → IsNoServe words
-  no_serve other said is = other is.command
-
-  pub no_kept : (IsFor Serve words → ⊥) → IsNoKeptServe words
-  no_kept other said name is = other is.command
-
-  -- words for one command are for no other
-  pub differs : (a b : CommandName) → (a ≡ b → ⊥) → IsFor a words → IsFor b words → ⊥
-  differs a b apart one other = apart (one_command a b words one other)
+  -- and they're for one alone
+  pub no_other : (a : CommandName) → IsFor a words → NoneOf a words → IsNoCommand words
+  no_other a named none = no_command (λ b other. subst (λ (n : CommandName). NoneOf n words) (one_command a b words named other) none)

@@ -3,9 +3,9 @@ use Rattle.claim_rule.specs.Walls.{WallView}
 use Rattle.host_words.specs.Commands.{IsFor}
 use Rattle.host_words.specs.Options.{words_texts}
 use Rattle.host_words.specs.declared.command.CommandName.{CommandName}
-use Rattle.host_words.specs.declared.command.CommandName.TheVariants.{Tiny, Replay, Export, Settle, Recover, Drill, Serve}
+use Rattle.host_words.specs.declared.command.CommandName.TheVariants.{Drill, Serve}
 use Rattle.host_drill.specs.Ends.{Leaves}
-use Rattle.rail_host.proofs.Naming.{differs, no_drill, no_export, no_kept, no_recover, no_replay, no_serve, no_settle, no_tiny, one_command}
+use Rattle.rail_host.proofs.Naming.{no_other, one_command}
 use Rattle.rail_host.proofs.Refusing.{plain_ends, plain_refused, plain_words}
 use Rattle.rail_host.proofs.Walls.{same_wall}
 use Rattle.rail_host.proofs.program.run_command.Goals as goal
@@ -13,17 +13,11 @@ use Rattle.rail_host.proofs.program.run_command.Goals as goal
 pub returns-in-Serve-clause-words : goal.returns-in-Serve-clause-words
 returns-in-Serve-clause-words g c two =
     let words = words_texts c.args.words.now in
-    let serve = subst (λ (n : CommandName). IsFor n words) c.in-Serve.is c.in-Some.ensures in
-    record {
-      tiny = no_tiny words (differs words Serve Tiny (λ e. absurd cc) serve);
-      replay = no_replay words (differs words Serve Replay (λ e. absurd cc) serve);
-      export = no_export words (differs words Serve Export (λ e. absurd cc) serve);
-      settle = no_settle words (differs words Serve Settle (λ e. absurd cc) serve);
-      recover = no_recover words (differs words Serve Recover (λ e. absurd cc) serve);
-      drill = no_drill words (differs words Serve Drill (λ e. absurd cc) serve);
-      serve = λ said is. c.serve_port.ensures.refused two said (record { command = is.command; is = is.is });
-      kept = λ said name is. c.serve_port.ensures.refused two said (record { command = is.command; is = is.is });
-    }
+    let no = c.serve_port.ensures.refused two in
+    no_other words Serve (subst (λ (n : CommandName). IsFor n words) c.in-Serve.is c.in-Some.ensures) (
+      λ said is. no said (record { command = is.command; is = is.is }),
+      λ said name is. no said (record { command = is.command; is = is.is }),
+    )
 
 pub returns-in-Serve-clause-refused_words : goal.returns-in-Serve-clause-refused_words
 returns-in-Serve-clause-refused_words g c none = elim c.serve_port.ensures.ended [
@@ -53,17 +47,7 @@ returns-in-Drill-clause-ran g c =
 pub returns-in-Drill-clause-words : goal.returns-in-Drill-clause-words
 returns-in-Drill-clause-words g c two =
     let words = words_texts c.args.words.now in
-    let drill = subst (λ (n : CommandName). IsFor n words) c.in-Drill.is c.in-Some.ensures in
-    record {
-      tiny = no_tiny words (differs words Drill Tiny (λ e. absurd cc) drill);
-      replay = no_replay words (differs words Drill Replay (λ e. absurd cc) drill);
-      export = no_export words (differs words Drill Export (λ e. absurd cc) drill);
-      settle = no_settle words (differs words Drill Settle (λ e. absurd cc) drill);
-      recover = no_recover words (differs words Drill Recover (λ e. absurd cc) drill);
-      drill = c.run_drill-status.ensures.words two;
-      serve = no_serve words (differs words Drill Serve (λ e. absurd cc) drill);
-      kept = no_kept words (differs words Drill Serve (λ e. absurd cc) drill);
-    }
+    no_other words Drill (subst (λ (n : CommandName). IsFor n words) c.in-Drill.is c.in-Some.ensures) (c.run_drill-status.ensures.words two)
 
 pub returns-in_default-clause-ran : goal.returns-in_default-clause-ran
 returns-in_default-clause-ran g c =

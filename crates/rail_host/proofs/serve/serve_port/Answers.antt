@@ -1,49 +1,24 @@
-use Rattle.std.proofs.Common.{◌⊎◌, ℕ, List, None, arith, inl, inr, refl, replicate, subst}
+use Rattle.std.proofs.Common.{◌⊎◌, ℕ, List, None, inl, inr, refl, replicate, subst}
 use Rattle.host_words.specs.Limits.{clock_count}
 use Rattle.host_words.specs.Options.{words_texts}
 use Rattle.host_serve.specs.Kept.{EndsAlone, EndsKept}
 use Rattle.host_serve.specs.Serve.{left_by, some_count}
 use Rattle.host_serve.specs.Turns.{Asks, Readings}
-use Rattle.host_journal.specs.declared.end.ServeOutcome.TheVariants.{NoMemory}
 use Rattle.rail_host.specs.Commands.{scene}
 use Rattle.plain_commands.specs.Devices.{Devices}
-use Rattle.rail_host.proofs.Alone.{alone}
+use Rattle.rail_host.proofs.Alone.{alone, unclocked}
 use Rattle.rail_host.proofs.Untold.{untold}
 use Rattle.rail_host.proofs.serve.serve_port.Goals as goal
 
 -- there was no memory for the clocks
 pub returns-in_default-clause-ended : goal.returns-in_default-clause-ended
 returns-in_default-clause-ended g c =
-    let five = c.end_command.ensures.status in inl (record {
-      outcome = NoMemory;
-      is = five;
-      ran = (refl, c.requires.fresh, refl);
-      told = record {
-        between = g.E.Sink.told c.args.devices.now.notes;
-        count = g.E.Sink.faults c.args.devices.now.notes;
-        text = record { same = refl; steady = refl };
-        note = c.end_command.ensures.noted;
-      };
-      exported = λ zero asked. absurd (omega (arith, zero, five));
-      write_cause = λ four. absurd (omega (arith, four, five));
-      cause = refl;
-      from = record {
-        without = λ one. absurd (omega (arith, one, five));
-        no_books = λ files told said is none. inr (inr five);
-        missed = λ one. absurd (omega (arith, one, five));
-        read_cause = λ three. absurd (omega (arith, three, five));
-        shelf_steady = λ other. refl;
-        steady = λ other. refl;
-        never_falls = omega arith;
-        wall = λ zero none. absurd (omega (arith, zero, five));
-        no_wall = λ three none. absurd (omega (arith, three, five));
-        same = refl;
-      };
-      refused = λ two. absurd (omega (arith, two, five));
-      refused_words = λ none. inr five;
-      unread = refl;
-      unwritten = refl;
-    })
+    inl (unclocked _ _ _ _ c.end_command.ensures.status refl c.requires.fresh refl (record {
+      between = g.E.Sink.told c.args.devices.now.notes;
+      count = g.E.Sink.faults c.args.devices.now.notes;
+      text = record { same = refl; steady = refl };
+      note = c.end_command.ensures.noted;
+    }) refl refl refl)
 
 pub returns-clause-ended : goal.returns-clause-ended
 returns-clause-ended g c =
