@@ -1,12 +1,10 @@
 #!/usr/bin/env python3
 """Builds the program without proving anything: as `rt try` does, but optimised, without AddressSanitizer, and kept.
 
-  tests/unproved.py [--as-proved] OUT
+  tests/unproved.py OUT
 
 The program tests each index and sum as it runs, so it is slower than the proved one. Its answers are the same. Only the
-kit and this repository are needed. Nothing is said for minutes. With --as-proved it tests nothing and is compiled as a
-proved program is, so that its counts of instructions are nearly that one's (`bench/as_proved.py`); it is for nothing
-else.
+kit and this repository are needed. Nothing is said for minutes.
 """
 import os
 import pathlib
@@ -28,16 +26,8 @@ if status == 0:
 sys.exit(status)
 """
 
-# What compiles in the place of the kit's clang, as a proved program is compiled.
-CLANG = """#!%s
-import sys
-sys.path.insert(0, "%s")
-from as_proved import compile_as_proved
-compile_as_proved("%s", sys.argv[1:], %r)
-"""
 
-
-def build(out, as_proved):
+def build(out):
     """Builds the program at this path, or ends with what the kit says."""
     out.unlink(missing_ok=True)
     os.chdir(ROOT / "crates/rail_host")
@@ -49,10 +39,6 @@ def build(out, as_proved):
         linker.unlink()
         linker.write_text(LINKER % (sys.executable, kit / "toolchain/bin/ld.lld", out))
         linker.chmod(0o755)
-        if as_proved:
-            folders = [str(ROOT / "crates"), str(kit / "rattle")]
-            text = CLANG % (sys.executable, ROOT / "bench", kit / "toolchain/bin/clang", folders)
-            (folder / "toolchain/bin/clang").write_text(text)
         environment = {**os.environ, "TMPDIR": name}
         done = subprocess.run(words, env=environment, stdin=subprocess.DEVNULL, capture_output=True, text=True)
     if not out.exists():
@@ -60,13 +46,11 @@ def build(out, as_proved):
 
 
 def main():
-    as_proved, words = sys.argv[1:2] == ["--as-proved"], sys.argv[1:]
-    words = words[as_proved:]
-    if len(words) != 1 or words[0].startswith("-"):
+    if len(sys.argv) != 2 or sys.argv[1].startswith("-"):
         print(__doc__)
-        return 0 if words in (["--help"], ["-h"]) else 2
-    out = pathlib.Path(words[0]).resolve()
-    build(out, as_proved)
+        return 0 if sys.argv[1:] in (["--help"], ["-h"]) else 2
+    out = pathlib.Path(sys.argv[1]).resolve()
+    build(out)
     out.chmod(0o755)
     return 0
 
